@@ -1,0 +1,4 @@
+pub mod Bools
+pub mod Digits
+pub mod Sets
+pub mod Least

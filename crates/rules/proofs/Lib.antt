@@ -1,0 +1,3 @@
+pub mod Time
+pub mod Clash
+pub mod Supported
