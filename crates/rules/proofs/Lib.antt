@@ -1,3 +1,9 @@
 pub mod Time
 pub mod Clash
 pub mod Supported
+pub mod Named
+pub mod Retimed
+pub mod Refused
+pub mod Judged
+pub mod Checked
+pub mod Orders
