@@ -7,3 +7,4 @@ pub mod Refused
 pub mod Judged
 pub mod Checked
 pub mod Orders
+pub mod Performed
