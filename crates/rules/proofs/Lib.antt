@@ -8,3 +8,4 @@ pub mod Judged
 pub mod Checked
 pub mod Orders
 pub mod Performed
+pub mod OneByOne
