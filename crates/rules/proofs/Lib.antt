@@ -9,3 +9,5 @@ pub mod Checked
 pub mod Orders
 pub mod Performed
 pub mod OneByOne
+pub mod Sums
+pub mod Early
