@@ -11,3 +11,5 @@ pub mod Performed
 pub mod OneByOne
 pub mod Sums
 pub mod Early
+pub mod Settle
+pub mod Enough
