@@ -12,7 +12,7 @@ use Rattle.facts.proofs.Bools.{T?, and-l, and-r, not-eqb, certain, below-suc}
 use Rattle.rules.specs.Table.{Problem, InOrder}
 use Rattle.rules.specs.Plans.{Plan, inPlan, In, finish, holds, Valid}
 use Rattle.rules.specs.Pairs.{binds}
-use Rattle.rules.specs.Order.{rankOf, rank, Before, First}
+use Rattle.rules.specs.Order.{rankOf, rank, Before, First, LeastBound}
 use Rattle.rules.specs.Settling.{Asked, Keeps, Settled}
 use Rattle.rules.proofs.Time.{Quiet, persists, Given, caused}
 use Rattle.rules.proofs.Clash.{given}
@@ -179,3 +179,13 @@ module _ (P : Problem) (ok : InOrder P) (base : ℕ) (released : (i : ℕ) → i
     -- the first plan within a bound is the first within the lesser of it and what is enough
     pub enough-first : (s : Plan) → First P bound s ↔ First P (min bound total) s
     enough-first s = (narrow s, widen s)
+
+  -- and the least bound is never more than what is enough
+  pub enough-least : (given b : ℕ) (s : Plan) → given < 65535 → LeastBound P given b s → b ≤ total
+  enough-least given b s small f = go (decLt total b)
+    where
+      go : Dec (total < b) → b ≤ total
+      go (no l) = omega arith
+      go (yes l) =
+          let r = enough b (omega (arith, f .within)) s (f .first .ok) in
+          absurd (f .none (min b total) (r .0) (omega arith) (r .1 .valid))

@@ -1,16 +1,17 @@
 -- Laws 7 and of uniqueness: more time never hurts; there is at most one first plan and one least bound, refusals included.
 -- Assumes nothing.
-use mathlib.Core.Path.{_≡_, refl, sym, _∙_, ap}
-use mathlib.Core.Logic.{_⊎_, inl, inr, _≢_}
+use mathlib.Core.Path.{_≡_, refl, sym, _∙_}
+use mathlib.Core.Logic.{_⊎_, inl, inr, _≢_, ⊎-elim}
 use mathlib.Core.Bool.{Bool, true, false}
 use Prim.Native.Nat.{ℕ, zero, suc, _+_, _≤_, _<_}
 use native.Mathlib.Omega.{arith}
 use native.Mathlib.Decide.{decLt}
 use lib.Dec.{T, eqb, eqb→eq}
-use Rattle.rules.specs.Refusals.{Verdict, accepted, refused}
+use Rattle.rules.specs.Refusals.{Verdict, accepted}
 use Rattle.rules.specs.Table.{Problem}
 use Rattle.rules.specs.Plans.{Plan, Valid}
-use Rattle.rules.specs.Order.{rankOf, rank, Before, First, LeastBound, Planned, Bounded}
+use Rattle.rules.specs.Order.{rankOf, rank, Before, First, LeastBound, NoPlan, Planned, Bounded}
+use Rattle.rules.proofs.Refused.{answers-only, answers-same}
 use Rattle.rules.proofs.Time.{persists}
 
 -- a valid plan stays valid within a greater bound
@@ -67,18 +68,25 @@ least-only P given b c s z x y = go (decLt b c) (decLt c b)
 -- two answers to planning within one bound say the same, and where they accept give the same starts
 pub planned-only : (P : Problem) (bound : ℕ) (v w : Verdict) (s z : Plan) → Planned P bound v s → Planned P bound w z
     → (v ≡ w) × (v ≡ accepted → (i : ℕ) → i < P .count → s i ≡ z i)
-planned-only P bound v w s z (inl (e, f)) (inl (d, g)) = (e ∙ sym d, λ h. first-only P bound s z f g)
-planned-only P bound v w s z (inl (e, f)) (inr (d, n)) = absurd (n s (f .ok))
-planned-only P bound v w s z (inr (e, n)) (inl (d, g)) = absurd (n z (g .ok))
-planned-only P bound v w s z (inr (e, n)) (inr (d, m)) = (e ∙ sym d, λ h. let o : _≡_ {A = ℕ} 10 0 = ap (λ (x : Verdict). x .number) (sym e ∙ h) in absurd (omega arith))
+planned-only P bound v w s z = answers-same 10 v w (omega arith) (λ f n. n s (f .ok)) (λ g n. n z (g .ok)) (first-only P bound s z)
 
 -- the same of the least bound
 pub bounded-only : (P : Problem) (given : ℕ) (v w : Verdict) (b c : ℕ) (s z : Plan) → Bounded P given v b s → Bounded P given w c z
     → (v ≡ w) × (b ≡ c) × (v ≡ accepted → (i : ℕ) → i < P .count → s i ≡ z i)
-bounded-only P given v w b c s z (inl (e, f)) (inl (d, g)) =
-    let same : b ≡ c = least-only P given b c s z f g in
-    (e ∙ sym d, same, λ h. first-only P c s z (rw same at (f .first)) (g .first))
-bounded-only P given v w b c s z (inl (e, f)) (inr (d, k, n)) = absurd (n s (wider P b given s (f .within) (f .first .ok)))
-bounded-only P given v w b c s z (inr (e, k, n)) (inl (d, g)) = absurd (n z (wider P c given z (g .within) (g .first .ok)))
-bounded-only P given v w b c s z (inr (e, k, n)) (inr (d, l, m)) =
-    (e ∙ sym d, k ∙ sym l, λ h. let o : _≡_ {A = ℕ} 10 0 = ap (λ (x : Verdict). x .number) (sym e ∙ h) in absurd (omega arith))
+bounded-only P given v w b c s z x y = (r .0, equal (r .1), λ e. ⊎-elim (λ h. starts (h .0) (h .1)) (λ m. absurd (m .1 e)) (r .1))
+  where
+    none : (d : ℕ) (t : Plan) → LeastBound P given d t → {A : Type 0} → A × NoPlan P given → ⊥
+    none d t f n = n .1 t (wider P d given t (f .within) (f .first .ok))
+
+    r : (v ≡ w)
+        × ((LeastBound P given b s × LeastBound P given c z)
+        ⊎ ((((b ≡ 65535) × NoPlan P given) × ((c ≡ 65535) × NoPlan P given)) × (v ≡ accepted → ⊥)))
+    r = answers-only 10 v w (omega arith) (λ f n. none b s f n) (λ g n. none c z g n) x y
+
+    equal : (LeastBound P given b s × LeastBound P given c z)
+        ⊎ ((((b ≡ 65535) × NoPlan P given) × ((c ≡ 65535) × NoPlan P given)) × (v ≡ accepted → ⊥)) → b ≡ c
+    equal (inl h) = least-only P given b c s z (h .0) (h .1)
+    equal (inr h) = h .0 .0 .0 ∙ sym (h .0 .1 .0)
+
+    starts : LeastBound P given b s → LeastBound P given c z → (i : ℕ) → i < P .count → s i ≡ z i
+    starts f g = first-only P c s z (rw (least-only P given b c s z f g) at (f .first)) (g .first)

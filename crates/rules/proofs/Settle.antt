@@ -1,6 +1,6 @@
 -- Law 9: where any starts keep what is asked there are least ones, and each of them is at its earliest or right behind a pair's first job.
 -- Assumes nothing.
-use mathlib.Core.Path.{_≡_, refl, sym, _∙_, ap}
+use mathlib.Core.Path.{_≡_, refl, sym, _∙_}
 use mathlib.Core.Logic.{_⊎_, inl, inr, ⊎-elim}
 use mathlib.Core.Bool.{Bool, true, false}
 use Prim.Native.Nat.{ℕ, zero, suc, _+_, _-_, _≤_, _<_, max}
@@ -8,11 +8,12 @@ use native.Mathlib.Omega.{arith}
 use native.Mathlib.Decide.{decLe}
 use lib.Dec.{T}
 use Rattle.facts.proofs.Bools.{T?, below-suc}
-use Rattle.rules.specs.Refusals.{Verdict, accepted, refused}
+use Rattle.rules.specs.Refusals.{Verdict, accepted}
 use Rattle.rules.specs.Table.{Problem, InOrder}
 use Rattle.rules.specs.Plans.{Plan, finish, Over}
 use Rattle.rules.specs.Estimates.{orElse}
 use Rattle.rules.specs.Settling.{Asked, Keeps, Settled, Settles}
+use Rattle.rules.proofs.Refused.{answers-same}
 use Rattle.rules.proofs.Sums.{sum, sum-falls, until, orElse-yes, orElse-no, orElse-mono}
 
 -- pairs are asked of jobs of the set alone, as check 15 makes sure
@@ -164,10 +165,7 @@ settled-only P q z y f g j l =
 -- two answers say the same, and where they accept give the same starts
 pub settles-only : (P : Problem) (q : Asked) (v w : Verdict) (z y : Plan) → Settles P q v z → Settles P q w y
     → (v ≡ w) × (v ≡ accepted → (j : ℕ) → j < P .count → z j ≡ y j)
-settles-only P q v w z y (inl (e, f)) (inl (d, g)) = (e ∙ sym d, λ h. settled-only P q z y f g)
-settles-only P q v w z y (inl (e, f)) (inr (d, n)) = absurd (n z (f .keeps))
-settles-only P q v w z y (inr (e, n)) (inl (d, g)) = absurd (n y (g .keeps))
-settles-only P q v w z y (inr (e, n)) (inr (d, m)) = (e ∙ sym d, λ h. let o : _≡_ {A = ℕ} 16 0 = ap (λ (x : Verdict). x .number) (sym e ∙ h) in absurd (omega arith))
+settles-only P q v w z y = answers-same 16 v w (omega arith) (λ f n. n z (f .keeps)) (λ g n. n y (g .keeps)) (settled-only P q z y)
 
 pub itself : (P : Problem) → InOrder P → (q : Asked) (z : Plan) (a : ℕ) → a < P .count → T (q .pair a a) → Keeps P q z → ⊥
 itself P ok q z a l x k = omega (arith, k .order a a l l x, ok .long a l)

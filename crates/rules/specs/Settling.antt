@@ -1,13 +1,12 @@
 -- Settling of times over ordered pairs, and its refusals 15 and 16.
 -- Assumes nothing.
 use mathlib.Core.Path.{_≡_}
-use mathlib.Core.Logic.{_⊎_}
 use mathlib.Core.Bool.{Bool, not, _&&_}
 use Prim.Native.Nat.{ℕ, _+_, _≤_, _<_}
 use lib.Dec.{T, eqb, leb, ltb}
 use Rattle.facts.specs.Facts.{has}
 use Rattle.facts.specs.Least.{any}
-use Rattle.rules.specs.Refusals.{Verdict, refuseIf, refuseAt, accepted, refused}
+use Rattle.rules.specs.Refusals.{Verdict, refuseIf, refuseAt, Answers}
 use Rattle.rules.specs.Table.{Problem}
 use Rattle.rules.specs.Plans.{Plan, finish, Over}
 
@@ -48,4 +47,4 @@ settleChecks P set first second pairs next =
 
 -- the answer behind the checks: the settled starts, or 16 exactly where there are none
 abbrev pub Settles : Problem → Asked → Verdict → Plan → Type 0
-Settles P q v z = ((v ≡ accepted) × Settled P q z) ⊎ ((v ≡ refused 16 0) × ((y : Plan) → Keeps P q y → ⊥))
+Settles P q v z = Answers v (Settled P q z) 16 ((y : Plan) → Keeps P q y → ⊥)
