@@ -1,6 +1,6 @@
 -- Tests as truths, and answers that say whether something is so.
 -- Assumes nothing.
-use mathlib.Core.Path.{_≡_, refl, sym, _∙_, subst}
+use mathlib.Core.Path.{_≡_, refl, sym, _∙_, ap, subst}
 use mathlib.Core.Bool.{Bool, true, false, not, _&&_, _||_, true≢false, false≢true}
 use mathlib.Core.Logic.{_⊎_, inl, inr, _≢_, _↔_}
 use Prim.Native.Nat.{ℕ, suc, _≤_, _<_}
@@ -59,6 +59,19 @@ test-yes {a} {b} e h = subst T e (subst T (sym h) tt)
 pub test-no : {a b : Bool} → a ≡ b → a ≡ false → T b → ⊥
 test-no {a} {b} e h x = subst T h (subst T (sym e) x)
 
+-- `x || y` and `x && y` in code: what each way out of the short cut gives
+pub or-first : {r x : Bool} (y : Bool) → r ≡ x → r ≡ true → r ≡ (x || y)
+or-first {r} {x} y e h = h ∙ sym (ap (λ (z : Bool). z || y) (sym e ∙ h))
+
+pub or-next : {r x y q : Bool} → r ≡ x → r ≡ false → q ≡ y → q ≡ (x || y)
+or-next {r} {x} {y} {q} e h k = k ∙ sym (ap (λ (z : Bool). z || y) (sym e ∙ h))
+
+pub and-first : {r x : Bool} (y : Bool) → r ≡ x → r ≡ false → r ≡ (x && y)
+and-first {r} {x} y e h = h ∙ sym (ap (λ (z : Bool). z && y) (sym e ∙ h))
+
+pub and-next : {r x y q : Bool} → r ≡ x → r ≡ true → q ≡ y → q ≡ (x && y)
+and-next {r} {x} {y} {q} e h k = k ∙ sym (ap (λ (z : Bool). z && y) (sym e ∙ h))
+
 -- ── tests of numbers ──
 
 pub eqb-of : {m n : ℕ} → m ≡ n → T (eqb m n)
@@ -104,3 +117,10 @@ decides-false {b = false} d n = refl
 pub decides-same : {b d : Bool} {A : Type 0} → Decides b A → Decides d A → b ≡ d
 decides-same {b = true} p q = sym (decides-true q (p .yea refl))
 decides-same {b = false} p q = sym (decides-false q (p .nay refl))
+
+-- an answer that says whether a test passes is that test
+pub decides-test : {b : Bool} {A : Type 0} (t : Bool) → Decides b A → (A → T t) → (T t → A) → b ≡ t
+decides-test {b = true} true d f g = refl
+decides-test {b = true} false d f g = absurd (f (d .yea refl))
+decides-test {b = false} true d f g = absurd (d .nay refl (g tt))
+decides-test {b = false} false d f g = refl

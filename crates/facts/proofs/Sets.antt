@@ -4,19 +4,19 @@ use mathlib.Core.Path.{_≡_, refl, sym, ap, _∙_, subst}
 use mathlib.Core.Bool.{Bool, true, false, not, _&&_, _||_}
 use mathlib.Core.Logic.{_⊎_, inl, inr, _≢_, _↔_}
 use Prim.Native.Nat.{ℕ, _+_, _-_, _/_, _%_, _^_, _≤_, _<_, min, max}
-use native.Mathlib.Nat.{lt-of-le-of-lt}
+use native.Mathlib.Nat.{lt-of-le-of-lt, div-div-eq-div-mul}
 use native.Mathlib.Omega.{arith}
 use native.Mathlib.Decide.{decLt}
 use lib.Arith.{lt-of-le-ne}
 use lib.Count.{trailingZeros, trailing-le}
 use lib.Dec.{T, eqb, eqb→eq, T-not, not-T}
-use lib.Pow.{pow-lt}
+use lib.Pow.{pow-lt, pow-add}
 use lib.Bits.{bitAnd, bitOr, and-le-l, and-le-r}
 use Rattle.facts.specs.Facts.{has, Word, Covers, Meets, after}
-use Rattle.facts.specs.Least.{least}
-use Rattle.facts.proofs.Bools.{T?, and-l, and-r, and-of, or-cases, or-l, or-r, same, eqb-of, not-eqb, eqb-not}
+use Rattle.facts.specs.Least.{least, any}
+use Rattle.facts.proofs.Bools.{T?, and-l, and-r, and-of, or-cases, or-l, or-r, same, eqb-of, decides-neb, decides-test}
 use Rattle.facts.proofs.Digits.{digit, digit-and, digit-or, digit-zero, digit-high, digit-not, digit-ext, digit-pow, digit-pow-only, some-digit, lowest-none, lowest-set}
-use Rattle.facts.proofs.Least.{Lowest, least-is}
+use Rattle.facts.proofs.Least.{Lowest, least-is, any-of, any-at}
 
 -- ── a fact is a digit that is 1 ──
 
@@ -128,6 +128,12 @@ meets-and a b = (there, back)
     back : Meets a b → bitAnd a b ≡ 0 → ⊥
     back m z = has-zero (m .0) (subst (λ (x : ℕ). T (has x (m .0))) z (subst T (sym (has-and a b (m .0))) (and-of (has a (m .0)) _ (m .1) (m .2))))
 
+-- the same as a test on the facts below the width
+pub meets-any : (k a b : ℕ) → b < 2 ^ k → not (eqb (bitAnd a b) 0) ≡ any (λ p. has a p && has b p) k
+meets-any k a b l = decides-test (any (λ p. has a p && has b p) k) (decides-neb (bitAnd a b) 0 (meets-and a b))
+    (λ y. any-of (λ p. has a p && has b p) k (y .0) (has-lt k b (y .0) l (y .2)) (and-of (has a (y .0)) _ (y .1) (y .2)))
+    (λ h. let y = any-at (λ p. has a p && has b p) k h in (y .0, and-l (has a (y .0)) _ (y .2), and-r (has a (y .0)) _ (y .2)))
+
 pub covers-and : (k have want : ℕ) → want < 2 ^ k → (bitAnd have want ≡ want) ↔ Covers have want
 covers-and k have want l = (there, back)
   where
@@ -137,6 +143,23 @@ covers-and k have want l = (there, back)
     back : Covers have want → bitAnd have want ≡ want
     back c = word-only k (has want) (bitAnd have want) want (lt-of-le-of-lt (and-le-r have want) l) l
         (λ p. has-and have want p ∙ same _ _ (λ h. and-r (has have p) _ h) (λ h. and-of (has have p) _ (c p h) h)) (λ p. refl)
+
+-- the fact p of w without its lowest k is the fact k + p of w
+pub has-shr : (k w p : ℕ) → has (w / 2 ^ k) p ≡ has w (k + p)
+unfolding has
+has-shr k w p = ap (λ (x : ℕ). eqb (x % 2) 1) (div-div-eq-div-mul w (2 ^ k) (2 ^ p) ∙ ap (λ (x : ℕ). w / x) (sym (pow-add 2 k p)))
+
+-- a word shifted down by k is not 0 exactly where it has a fact at k or above
+pub high-and : (k w : ℕ) → (w / 2 ^ k ≡ 0 → ⊥) ↔ ((p : ℕ) × (k ≤ p) × T (has w p))
+high-and k w = (there, back)
+  where
+    there : (w / 2 ^ k ≡ 0 → ⊥) → (p : ℕ) × (k ≤ p) × T (has w p)
+    there n = let s = some-fact (w / 2 ^ k) n in (k + s .0, omega arith, subst T (has-shr k w (s .0)) (s .1))
+
+    back : ((p : ℕ) × (k ≤ p) × T (has w p)) → w / 2 ^ k ≡ 0 → ⊥
+    back (p, l, h) z =
+        let e : k + (p - k) ≡ p = omega arith in
+        has-zero (p - k) (subst (λ (x : ℕ). T (has x (p - k))) z (subst T (sym (has-shr k w (p - k))) (subst (λ (x : ℕ). T (has w x)) (sym e) h)))
 
 -- the lowest fact below k, or k
 pub lowest-fact : (k w : ℕ) → trailingZeros k w ≡ least (has w) k

@@ -3,8 +3,8 @@ ghost use mathlib.Core.Path.{_≡_};
 ghost use mathlib.Core.Bool.{not, _&&_, _||_};
 ghost use Prim.Native.Nat.{ℕ, _<_};
 ghost use lib.Dec.{eqb};
-ghost use Rattle.facts.specs.Facts.{has, Word, Covers, Meets, Decides, after};
-ghost use Rattle.facts.specs.Least.{least};
+ghost use Rattle.facts.specs.Facts.{has, Word, Covers, Decides, after};
+ghost use Rattle.facts.specs.Least.{least, any};
 
 // Fact p is in w.
 pub fn has(w: u64, p: usize) -> bool
@@ -23,7 +23,7 @@ pub fn covers(have: u64, want: u64) -> bool
 
 // Some fact is in both.
 pub fn meets(a: u64, b: u64) -> bool
-    ensures { λ r. ⌜ Decides r (Meets a b) ⌝ }
+    ensures { λ r. ⌜ r ≡ any (λ p. has a p && has b p) 64 ⌝ }
 {
     (a & b) != 0
 }

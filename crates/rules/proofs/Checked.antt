@@ -13,7 +13,7 @@ use Rattle.facts.proofs.Bools.{and-l, and-r, and-of, or-l, or-r, certain}
 use Rattle.facts.proofs.Least.{any-of}
 use Rattle.facts.proofs.Sets.{has-lt}
 use Rattle.rules.specs.Refusals.{Verdict, accepted}
-use Rattle.rules.specs.Table.{Problem, Words, InOrder, needs, adds, deletes, between, strays, jobStrays, undoes, tableChecks, boundCheck}
+use Rattle.rules.specs.Table.{Problem, Words, InOrder, needs, adds, deletes, between, strays, jobStrays, undoes, jobChecks, tableChecks, boundCheck}
 use Rattle.rules.proofs.Refused.{if-zero, at-zero}
 
 -- what passing checks 4 to 8 says
@@ -22,10 +22,10 @@ pub record Passed (P : Problem) : Type 0 where
   pub count : P .count ≤ 24
   pub durations : (i : ℕ) → i < P .count → (1 ≤ P .duration i) × (P .duration i ≤ 960)
   pub facts : (i : ℕ) → i < P .count → T (jobStrays P i) → ⊥
-  pub edges : T (strays P (P .opening) || strays P (P .goals)) → ⊥
+  pub edges : T (strays (P .atoms) (P .opening) || strays (P .atoms) (P .goals)) → ⊥
   pub pure : (i : ℕ) → i < P .count → T (undoes P i) → ⊥
 
-in-range : (l m n : ℕ) → (T (not (between l m n)) → ⊥) → (l ≤ n) × (n ≤ m)
+pub in-range : (l m n : ℕ) → (T (not (between l m n)) → ⊥) → (l ≤ n) × (n ≤ m)
 unfolding between
 in-range l m n q = let h = certain (leb l n && leb n m) q in (leb→le l n (and-l (leb l n) _ h), leb→le n m (and-r (leb l n) _ h))
 
@@ -37,13 +37,13 @@ at-most m n q = go (decLt m n)
     go (no h) = omega arith
 
 pub passed : (P : Problem) → tableChecks P accepted ≡ accepted → Passed P
-unfolding tableChecks
+unfolding tableChecks jobChecks
 passed P h =
     let a = if-zero (not (between 1 64 (P .atoms))) 4 0 _ (omega arith) h in
     let b = if-zero (ltb 24 (P .count)) 5 0 _ (omega arith) (a .1) in
     let c = at-zero (λ i. not (between 1 960 (P .duration i))) (P .count) 6 _ (omega arith) (b .1) in
     let d = at-zero (jobStrays P) (P .count) 7 _ (omega arith) (c .1) in
-    let e = if-zero (strays P (P .opening) || strays P (P .goals)) 7 24 _ (omega arith) (d .1) in
+    let e = if-zero (strays (P .atoms) (P .opening) || strays (P .atoms) (P .goals)) 7 24 _ (omega arith) (d .1) in
     let f = at-zero (undoes P) (P .count) 8 _ (omega arith) (e .1) in
     record {
       atoms = in-range 1 64 (P .atoms) (a .0);

@@ -2,7 +2,7 @@
 -- Assumes nothing.
 use mathlib.Core.Path.{_≡_, refl, sym, _∙_}
 use mathlib.Core.Logic.{_⊎_, inl, inr, ⊎-elim}
-use mathlib.Core.Bool.{Bool, true, false}
+use mathlib.Core.Bool.{Bool, true, false, cond}
 use Prim.Native.Nat.{ℕ, zero, suc, _+_, _-_, _≤_, _<_, min, max}
 use native.Mathlib.Omega.{arith}
 use native.Mathlib.Decide.{decLt, decLe}
@@ -11,9 +11,9 @@ use Rattle.facts.specs.Facts.{has}
 use Rattle.facts.proofs.Bools.{T?, below-suc}
 use Rattle.rules.specs.Table.{Problem, InOrder, needs, adds}
 use Rattle.rules.specs.Plans.{Plan, In, finish, holds, Valid}
-use Rattle.rules.specs.Estimates.{plus, orElse, cheapest, cost, condition, dearest, Estimates}
+use Rattle.rules.specs.Estimates.{plus, cheapest, cost, condition, dearest, Estimates}
 use Rattle.rules.proofs.Time.{Quiet, Given, caused}
-use Rattle.rules.proofs.Sums.{sum, sum-falls, until, orElse-yes, orElse-no, orElse-mono, chain-end}
+use Rattle.rules.proofs.Sums.{sum, sum-falls, until, cond-yes, cond-no, cond-mono, chain-end}
 
 -- ── what the folds say ──
 
@@ -49,11 +49,11 @@ module _ (P : Problem) (est : ℕ → ℕ) where
   cheapest-le p (suc k) a l x = go (below-suc a k l) (λ m. cheapest-le p k a m x)
     where
       e : ℕ
-      e = orElse (has (P .additions k) p) (plus (est k) (P .duration k)) 65535
+      e = cond (has (P .additions k) p) (plus (est k) (P .duration k)) 65535
 
       go : (a < k) ⊎ (a ≡ k) → (a < k → cheapest P est p k ≤ plus (est a) (P .duration a)) → min e (cheapest P est p k) ≤ plus (est a) (P .duration a)
       go (inl m) r = omega (arith, r m)
-      go (inr m) r = rw m (omega (arith, orElse-yes (has (P .additions k) p) (plus (est k) (P .duration k)) 65535 (rw m at x)))
+      go (inr m) r = rw m (omega (arith, cond-yes (has (P .additions k) p) (plus (est k) (P .duration k)) 65535 (rw m at x)))
 
   -- an adder of p that attains the number
   abbrev Attains : ℕ → ℕ → ℕ → Type 0
@@ -68,7 +68,7 @@ module _ (P : Problem) (est : ℕ → ℕ) where
       x = cheapest P est p k
 
       e : ℕ
-      e = orElse (has (P .additions k) p) (plus (est k) (P .duration k)) 65535
+      e = cond (has (P .additions k) p) (plus (est k) (P .duration k)) 65535
 
       below : Attains p k x → min e x ≡ x → Attains p (suc k) (min e x)
       below (a, l, g, q) h = (a, omega arith, g, h ∙ q)
@@ -78,11 +78,11 @@ module _ (P : Problem) (est : ℕ → ℕ) where
       rest (inr q) h = inr (below q h)
 
       go : adds P k p ⊎ (adds P k p → ⊥) → (x ≡ 65535) ⊎ Attains p k x → x ≤ 65535 → (min e x ≡ 65535) ⊎ Attains p (suc k) (min e x)
-      go (inr n) r cap = rest r (omega (arith, orElse-no (has (P .additions k) p) (plus (est k) (P .duration k)) 65535 n))
+      go (inr n) r cap = rest r (omega (arith, cond-no (has (P .additions k) p) (plus (est k) (P .duration k)) 65535 n))
       go (inl g) r cap = pick (decLe e x)
         where
           is : e ≡ plus (est k) (P .duration k)
-          is = orElse-yes (has (P .additions k) p) (plus (est k) (P .duration k)) 65535 g
+          is = cond-yes (has (P .additions k) p) (plus (est k) (P .duration k)) 65535 g
 
           pick : Dec (e ≤ x) → (min e x ≡ 65535) ⊎ Attains p (suc k) (min e x)
           pick (yes l) = inr (k, omega arith, g, omega (arith, is))
@@ -90,11 +90,11 @@ module _ (P : Problem) (est : ℕ → ℕ) where
 
   pub cost-free : (p : ℕ) → T (has (P .opening) p) → cost P est p ≡ 0
   unfolding cost
-  cost-free p o = orElse-yes (has (P .opening) p) 0 (cheapest P est p (P .count)) o
+  cost-free p o = cond-yes (has (P .opening) p) 0 (cheapest P est p (P .count)) o
 
   cost-is : (p : ℕ) → (T (has (P .opening) p) → ⊥) → cost P est p ≡ cheapest P est p (P .count)
   unfolding cost
-  cost-is p n = orElse-no (has (P .opening) p) 0 (cheapest P est p (P .count)) n
+  cost-is p n = cond-no (has (P .opening) p) 0 (cheapest P est p (P .count)) n
 
   pub cost-cap : (p : ℕ) → cost P est p ≤ 65535
   cost-cap p = ⊎-elim (λ o. omega (arith, cost-free p o)) (λ n. omega (arith, cost-is p n, cheapest-cap p (P .count))) (T? (has (P .opening) p))
@@ -107,11 +107,11 @@ module _ (P : Problem) (est : ℕ → ℕ) where
 
   condition-free : (p : ℕ) → T (has (P .opening) p) → condition P est p ≡ 0
   unfolding condition
-  condition-free p o = orElse-yes (has (P .opening) p) 0 (plus (cost P est p) (P .gap)) o
+  condition-free p o = cond-yes (has (P .opening) p) 0 (plus (cost P est p) (P .gap)) o
 
   condition-is : (p : ℕ) → (T (has (P .opening) p) → ⊥) → condition P est p ≡ plus (cost P est p) (P .gap)
   unfolding condition
-  condition-is p n = orElse-no (has (P .opening) p) 0 (plus (cost P est p) (P .gap)) n
+  condition-is p n = cond-no (has (P .opening) p) 0 (plus (cost P est p) (P .gap)) n
 
   condition-cap : (p : ℕ) → condition P est p ≤ 65535
   condition-cap p = ⊎-elim (λ o. omega (arith, condition-free p o)) (λ n. omega (arith, condition-is p n, plus-cap (cost P est p) (P .gap))) (T? (has (P .opening) p))
@@ -127,11 +127,11 @@ module _ (P : Problem) (est : ℕ → ℕ) where
   dearest-ge i (suc k) p l x = go (below-suc p k l) (λ m. dearest-ge i k p m x)
     where
       e : ℕ
-      e = orElse (has (P .conditions i) k) (condition P est k) 0
+      e = cond (has (P .conditions i) k) (condition P est k) 0
 
       go : (p < k) ⊎ (p ≡ k) → (p < k → condition P est p ≤ dearest P est i k) → condition P est p ≤ max e (dearest P est i k)
       go (inl m) r = omega (arith, r m)
-      go (inr m) r = rw m (omega (arith, orElse-yes (has (P .conditions i) k) (condition P est k) 0 (rw m at x)))
+      go (inr m) r = rw m (omega (arith, cond-yes (has (P .conditions i) k) (condition P est k) 0 (rw m at x)))
 
   -- a condition of i that is as dear as the number
   abbrev Dear : ℕ → ℕ → Type 0
@@ -146,19 +146,19 @@ module _ (P : Problem) (est : ℕ → ℕ) where
       x = dearest P est i k
 
       e : ℕ
-      e = orElse (has (P .conditions i) k) (condition P est k) 0
+      e = cond (has (P .conditions i) k) (condition P est k) 0
 
       rest : (x ≡ P .release i) ⊎ Dear i x → max e x ≡ x → (max e x ≡ P .release i) ⊎ Dear i (max e x)
       rest (inl q) h = inl (h ∙ q)
       rest (inr (p, n, q)) h = inr (p, n, h ∙ q)
 
       go : needs P i k ⊎ (needs P i k → ⊥) → (x ≡ P .release i) ⊎ Dear i x → (max e x ≡ P .release i) ⊎ Dear i (max e x)
-      go (inr n) r = rest r (omega (arith, orElse-no (has (P .conditions i) k) (condition P est k) 0 n))
+      go (inr n) r = rest r (omega (arith, cond-no (has (P .conditions i) k) (condition P est k) 0 n))
       go (inl g) r = pick (decLe e x)
         where
           pick : Dec (e ≤ x) → (max e x ≡ P .release i) ⊎ Dear i (max e x)
           pick (yes l) = rest r (omega arith)
-          pick (no l) = inr (k, g, omega (arith, orElse-yes (has (P .conditions i) k) (condition P est k) 0 g))
+          pick (no l) = inr (k, g, omega (arith, cond-yes (has (P .conditions i) k) (condition P est k) 0 g))
 
 -- ── no valid plan starts a job before its estimate ──
 
@@ -257,7 +257,7 @@ module _ (P : Problem) where
   cheapest-mono e f p zero h = omega arith
   cheapest-mono e f p (suc k) h =
       let r : cheapest P e p k ≤ cheapest P f p k = cheapest-mono e f p k (λ i l. h i (omega arith)) in
-      omega (arith, orElse-mono (has (P .additions k) p) _ _ 65535 (plus-mono (e k) (f k) (P .duration k) (h k (omega arith))))
+      omega (arith, cond-mono (has (P .additions k) p) _ _ 65535 (plus-mono (e k) (f k) (P .duration k) (h k (omega arith))))
 
   condition-mono : (e f : ℕ → ℕ) (p : ℕ) → ((i : ℕ) → i < P .count → e i ≤ f i) → condition P e p ≤ condition P f p
   condition-mono e f p h = go (T? (has (P .opening) p))
@@ -273,7 +273,7 @@ module _ (P : Problem) where
   dearest-mono e f i zero h = omega arith
   dearest-mono e f i (suc k) h =
       let r : dearest P e i k ≤ dearest P f i k = dearest-mono e f i k h in
-      omega (arith, orElse-mono (has (P .conditions i) k) _ _ 0 (condition-mono e f k h))
+      omega (arith, cond-mono (has (P .conditions i) k) _ _ 0 (condition-mono e f k h))
 
   dearest-cap : (e : ℕ → ℕ) (i : ℕ) → dearest P e i 64 ≤ max 65535 (P .release i)
   dearest-cap e i = ⊎-elim (λ q. omega arith) (λ w. omega (arith, w .2, condition-cap P e (w .0))) (dearest-at P e i 64)

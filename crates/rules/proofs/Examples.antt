@@ -12,12 +12,12 @@ use Rattle.facts.specs.Least.{least, further, any}
 use Rattle.facts.proofs.Bools.{certain}
 use Rattle.facts.proofs.Least.{lowest}
 use Rattle.rules.specs.Refusals.{accepted, refused, refuseIf, refuseAt}
-use Rattle.rules.specs.Table.{Problem, listed, between, strays, jobStrays, undoes, tableChecks, boundCheck}
+use Rattle.rules.specs.Table.{Problem, listed, between, strays, jobStrays, undoes, jobChecks, tableChecks, boundCheck}
 use Rattle.rules.specs.Plans.{Plan, inPlan, spoils, interfere, ends, afterIf, finishes, holds}
 use Rattle.rules.specs.Verdicts.{late, overlap, clashes, unready, missing, planChecks}
 use Rattle.rules.specs.Supports.{job, blocks, startFits, jobFits, Support, by, name, named, byteIf, byteOf, supportByte}
 use Rattle.rules.specs.Pairs.{isJob, feeds, binds, inOrder, pairIf, pairBytes}
-use Rattle.rules.specs.Estimates.{plus, orElse, cheapest, cost, condition, dearest, Estimates}
+use Rattle.rules.specs.Estimates.{plus, cheapest, cost, condition, dearest, Estimates}
 
 -- unpack, drench, warm, wash; five facts, open {0}
 abbrev pub jobsU : (goals : ℕ) → Problem
@@ -32,7 +32,7 @@ all : (f : ℕ → Bool) (n : ℕ) → least (λ i. not (f i)) n ≡ n → (i : 
 all f n e i l = certain (f i) (λ h. lowest (λ j. not (f j)) n .first i (omega arith) h)
 
 in-order : boundCheck 12 (tableChecks (jobsU 28) accepted) ≡ accepted
-unfolding boundCheck tableChecks between strays jobStrays undoes refuseAt refuseIf has any least further
+unfolding boundCheck tableChecks jobChecks between strays jobStrays undoes refuseAt refuseIf has any least further
 in-order = refl
 
 -- P1: goals {2, 3} within 12
@@ -74,7 +74,7 @@ unfolding pairBytes inOrder pairIf binds feeds isJob named name startFits jobFit
 p3-pairs = refl
 
 p3-estimates : Estimates (jobsU 28) (starts (0 ∷ 4 ∷ 4 ∷ 4 ∷ []))
-unfolding dearest condition cost cheapest plus orElse has least further
+unfolding dearest condition cost cheapest plus has least further
 p3-estimates i l = eqb→eq _ _ (all (λ i. eqb (starts (0 ∷ 4 ∷ 4 ∷ 4 ∷ []) i) (dearest (jobsU 28) (starts (0 ∷ 4 ∷ 4 ∷ 4 ∷ [])) i 64)) 4 refl i l)
 
 -- two jobs that add fact 0, one between them that deletes it, and one that needs it

@@ -1,12 +1,16 @@
 -- A list of checks accepts exactly where no check refuses.
 -- Assumes nothing.
-use mathlib.Core.Path.{_≡_, refl, sym, _∙_, ap}
+use mathlib.Core.Path.{_≡_, refl, sym, _∙_, ap, subst}
 use mathlib.Core.Logic.{_⊎_, inl, inr, _≢_, ⊎-elim}
-use mathlib.Core.Bool.{Bool, true, false}
-use Prim.Native.Nat.{ℕ}
-use lib.Dec.{T}
+use mathlib.Core.Bool.{Bool, true, false, not, _||_}
+use Prim.Native.Nat.{ℕ, _≤_, _<_}
+use native.Mathlib.Omega.{arith}
+use lib.Dec.{T, ltb, ltb→lt, lt→ltb}
 use Rattle.facts.specs.Least.{least, any}
-use Rattle.rules.specs.Refusals.{Verdict, accepted, refuseIf, refuseAt, Answers}
+use Rattle.rules.specs.Refusals.{Verdict, accepted, refused, refuseIf, refuseAt, Answers}
+use Rattle.rules.specs.Table.{Problem, between, strays, jobStrays, undoes, jobChecks, tableChecks, boundCheck}
+use Rattle.rules.specs.Plans.{Plan}
+use Rattle.rules.specs.Verdicts.{late, clashes, unready, missing, planChecks}
 
 -- a check that does not pass goes on
 pub if-pass : (b : Bool) (n k : ℕ) (v : Verdict) → (T b → ⊥) → refuseIf b n k v ≡ v
@@ -14,9 +18,23 @@ unfolding refuseIf
 if-pass true n k v q = absurd (q tt)
 if-pass false n k v q = refl
 
+pub if-hit : (b : Bool) (n k : ℕ) (v : Verdict) → T b → refuseIf b n k v ≡ refused n k
+unfolding refuseIf
+if-hit true n k v q = refl
+if-hit false n k v q = absurd q
+
 pub at-pass : (f : ℕ → Bool) (m n : ℕ) (v : Verdict) → (T (any f m) → ⊥) → refuseAt f m n v ≡ v
 unfolding refuseAt
 at-pass f m n v q = if-pass (any f m) n (least f m) v q
+
+-- the same by the place that code found
+pub at-hit : (f : ℕ → Bool) (m n : ℕ) (v : Verdict) {r : ℕ} → r ≡ least f m → r < m → refuseAt f m n v ≡ refused n r
+unfolding refuseAt any
+at-hit f m n v {r} e l = if-hit (ltb (least f m) m) n (least f m) v (lt→ltb _ _ (subst (λ (x : ℕ). x < m) e l)) ∙ ap (refused n) (sym e)
+
+pub at-miss : (f : ℕ → Bool) (m n : ℕ) (v : Verdict) {r : ℕ} → r ≡ least f m → m ≤ r → refuseAt f m n v ≡ v
+unfolding any
+at-miss f m n v {r} e l = at-pass f m n v (λ h. omega (arith, ltb→lt (least f m) m h))
 
 -- where the list accepts, this check passed and the rest accepts
 pub if-zero : (b : Bool) (n k : ℕ) (v : Verdict) → n ≢ 0 → refuseIf b n k v ≡ accepted → (T b → ⊥) × (v ≡ accepted)
@@ -27,6 +45,59 @@ if-zero false n k v ne h = (λ x. x, h)
 pub at-zero : (f : ℕ → Bool) (m n : ℕ) (v : Verdict) → n ≢ 0 → refuseAt f m n v ≡ accepted → (T (any f m) → ⊥) × (v ≡ accepted)
 unfolding refuseAt
 at-zero f m n v ne h = if-zero (any f m) n (least f m) v ne h
+
+-- ── one list behind another ──
+
+-- a list of checks stops with one refusal whatever comes behind it, or goes on
+abbrev pub Checks : (Verdict → Verdict) → Type 0
+Checks C = ((v : Verdict) × (v .number ≢ 0) × ((next : Verdict) → C next ≡ v)) ⊎ ((next : Verdict) → C next ≡ next)
+
+pub if-checks : (b : Bool) (n k : ℕ) → n ≢ 0 → Checks (refuseIf b n k)
+unfolding refuseIf
+if-checks true n k ne = inl (refused n k, ne, λ next. refl)
+if-checks false n k ne = inr (λ next. refl)
+
+pub at-checks : (f : ℕ → Bool) (m n : ℕ) → n ≢ 0 → Checks (refuseAt f m n)
+unfolding refuseAt
+at-checks f m n ne = if-checks (any f m) n (least f m) ne
+
+pub then-checks : {C D : Verdict → Verdict} → Checks C → Checks D → Checks (λ v. C (D v))
+then-checks {C} {D} (inl (v, ne, e)) d = inl (v, ne, λ next. e (D next))
+then-checks {C} {D} (inr e) (inl (v, ne, f)) = inl (v, ne, λ next. e (D next) ∙ f next)
+then-checks {C} {D} (inr e) (inr f) = inr (λ next. e (D next) ∙ f next)
+
+-- where it refuses, it refuses the same whatever comes behind
+pub stopped : (C : Verdict → Verdict) → Checks C → (C accepted .number ≡ 0 → ⊥) → (next : Verdict) → C next ≡ C accepted
+stopped C (inl (v, ne, e)) n next = e next ∙ sym (e accepted)
+stopped C (inr e) n next = absurd (n (ap (λ (x : Verdict). x .number) (e accepted)))
+
+-- where it does not, it accepts, and goes on
+pub went-on : (C : Verdict → Verdict) → Checks C → C accepted .number ≡ 0 → (next : Verdict) → C next ≡ next
+went-on C (inl (v, ne, e)) z next = absurd (ne (ap (λ (x : Verdict). x .number) (sym (e accepted)) ∙ z))
+went-on C (inr e) z next = e next
+
+pub job-checks : (P : Problem) → Checks (jobChecks P)
+unfolding jobChecks
+job-checks P =
+    then-checks (at-checks (λ i. not (between 1 960 (P .duration i))) (P .count) 6 (omega arith))
+    (then-checks (at-checks (jobStrays P) (P .count) 7 (omega arith))
+    (then-checks (if-checks (strays (P .atoms) (P .opening) || strays (P .atoms) (P .goals)) 7 24 (omega arith)) (at-checks (undoes P) (P .count) 8 (omega arith))))
+
+pub table-checks : (P : Problem) → Checks (tableChecks P)
+unfolding tableChecks
+table-checks P =
+    then-checks (if-checks (not (between 1 64 (P .atoms))) 4 0 (omega arith)) (then-checks (if-checks (ltb 24 (P .count)) 5 0 (omega arith)) (job-checks P))
+
+pub bound-checks : (bound : ℕ) → Checks (boundCheck bound)
+unfolding boundCheck
+bound-checks bound = if-checks (ltb 2880 bound) 9 0 (omega arith)
+
+pub plan-checks : (P : Problem) (bound : ℕ) (s : Plan) → Checks (planChecks P bound s)
+unfolding planChecks
+plan-checks P bound s =
+    then-checks (at-checks (late P bound s) (P .count) 11 (omega arith))
+    (then-checks (at-checks (clashes P s) (P .count) 12 (omega arith))
+    (then-checks (at-checks (unready P s) (P .count) 13 (omega arith)) (at-checks (missing P bound s) 64 14 (omega arith))))
 
 -- two answers to one question: they say the same, and where they accept both hold
 pub answers-only : {A B N M : Type 0} (n : ℕ) (v w : Verdict) → n ≢ 0 → (A → M → ⊥) → (B → N → ⊥) → Answers v A n N → Answers w B n M

@@ -2,7 +2,7 @@
 -- Assumes nothing.
 use mathlib.Core.Path.{_≡_, refl, sym, _∙_}
 use mathlib.Core.Logic.{_⊎_, inl, inr, ⊎-elim}
-use mathlib.Core.Bool.{Bool, true, false}
+use mathlib.Core.Bool.{Bool, true, false, cond}
 use Prim.Native.Nat.{ℕ, zero, suc, _+_, _-_, _≤_, _<_, max}
 use native.Mathlib.Omega.{arith}
 use native.Mathlib.Decide.{decLe}
@@ -11,10 +11,9 @@ use Rattle.facts.proofs.Bools.{T?, below-suc}
 use Rattle.rules.specs.Refusals.{Verdict, accepted}
 use Rattle.rules.specs.Table.{Problem, InOrder}
 use Rattle.rules.specs.Plans.{Plan, finish, Over}
-use Rattle.rules.specs.Estimates.{orElse}
 use Rattle.rules.specs.Settling.{Asked, Keeps, Settled, Settles}
 use Rattle.rules.proofs.Refused.{answers-same}
-use Rattle.rules.proofs.Sums.{sum, sum-falls, until, orElse-yes, orElse-no, orElse-mono}
+use Rattle.rules.proofs.Sums.{sum, sum-falls, until, cond-yes, cond-no, cond-mono}
 
 -- pairs are asked of jobs of the set alone, as check 15 makes sure
 abbrev pub Closed : Problem → Asked → Type 0
@@ -28,7 +27,7 @@ Tight P q z = (j : ℕ) → j < P .count → T (q .set j) → (z j ≡ q .from j
 
 unfoldable push : Problem → Asked → Plan → ℕ → ℕ → ℕ
 push P q z j zero = q .from j
-push P q z j (suc a) = max (orElse (q .pair a j) (finish P z a + P .gap) 0) (push P q z j a)
+push P q z j (suc a) = max (cond (q .pair a j) (finish P z a + P .gap) 0) (push P q z j a)
 
 module _ (P : Problem) (q : Asked) where
   push-from : (z : Plan) (j k : ℕ) → q .from j ≤ push P q z j k
@@ -42,11 +41,11 @@ module _ (P : Problem) (q : Asked) where
   push-ge z j (suc k) a l x = go (below-suc a k l) (λ m. push-ge z j k a m x)
     where
       e : ℕ
-      e = orElse (q .pair k j) (finish P z k + P .gap) 0
+      e = cond (q .pair k j) (finish P z k + P .gap) 0
 
       go : (a < k) ⊎ (a ≡ k) → (a < k → finish P z a + P .gap ≤ push P q z j k) → finish P z a + P .gap ≤ max e (push P q z j k)
       go (inl m) r = omega (arith, r m)
-      go (inr m) r = rw m (omega (arith, orElse-yes (q .pair k j) (finish P z k + P .gap) 0 (rw m at x)))
+      go (inr m) r = rw m (omega (arith, cond-yes (q .pair k j) (finish P z k + P .gap) 0 (rw m at x)))
 
   -- the pair that asks for the number
   abbrev Asks : Plan → ℕ → ℕ → ℕ → Type 0
@@ -61,19 +60,19 @@ module _ (P : Problem) (q : Asked) where
       x = push P q z j k
 
       e : ℕ
-      e = orElse (q .pair k j) (finish P z k + P .gap) 0
+      e = cond (q .pair k j) (finish P z k + P .gap) 0
 
       rest : (x ≡ q .from j) ⊎ Asks z j k x → max e x ≡ x → (max e x ≡ q .from j) ⊎ Asks z j (suc k) (max e x)
       rest (inl w) h = inl (h ∙ w)
       rest (inr (a, l, g, w)) h = inr (a, omega arith, g, h ∙ w)
 
       go : T (q .pair k j) ⊎ (T (q .pair k j) → ⊥) → (x ≡ q .from j) ⊎ Asks z j k x → (max e x ≡ q .from j) ⊎ Asks z j (suc k) (max e x)
-      go (inr n) r = rest r (omega (arith, orElse-no (q .pair k j) (finish P z k + P .gap) 0 n))
+      go (inr n) r = rest r (omega (arith, cond-no (q .pair k j) (finish P z k + P .gap) 0 n))
       go (inl g) r = pick (decLe e x)
         where
           pick : Dec (e ≤ x) → (max e x ≡ q .from j) ⊎ Asks z j (suc k) (max e x)
           pick (yes l) = rest r (omega arith)
-          pick (no l) = inr (k, omega arith, g, omega (arith, orElse-yes (q .pair k j) (finish P z k + P .gap) 0 g))
+          pick (no l) = inr (k, omega arith, g, omega (arith, cond-yes (q .pair k j) (finish P z k + P .gap) 0 g))
 
   push-mono : (y z : Plan) (j k : ℕ) → ((i : ℕ) → i < k → y i ≤ z i) → push P q y j k ≤ push P q z j k
   unfolding push
@@ -81,7 +80,7 @@ module _ (P : Problem) (q : Asked) where
   push-mono y z j (suc a) h =
       let r : push P q y j a ≤ push P q z j a = push-mono y z j a (λ i l. h i (omega arith)) in
       let m : finish P y a + P .gap ≤ finish P z a + P .gap = omega (arith, h a (omega arith)) in
-      omega (arith, orElse-mono (q .pair a j) _ _ 0 m)
+      omega (arith, cond-mono (q .pair a j) _ _ 0 m)
 
 -- ── rounds until nothing changes ──
 
@@ -109,18 +108,18 @@ module _ (P : Problem) (q : Asked) (closed : Closed P q) (y : Plan) (kept : Keep
 
   -- what is still to rise
   abbrev left : Plan → ℕ → ℕ
-  left z j = orElse (q .set j) (y j - z j) 0
+  left z j = cond (q .set j) (y j - z j) 0
 
   falls : (z : Plan) → Low z → Done z ⊎ (sum (left (round z)) (P .count) < sum (left z) (P .count))
   falls z h = ⊎-elim (λ e. inl (λ j l t. still j l t (e j l))) inr
-      (sum-falls (left (round z)) (left z) (P .count) (λ j l. orElse-mono (q .set j) _ _ 0 (omega (arith, h .rises j l))))
+      (sum-falls (left (round z)) (left z) (P .count) (λ j l. cond-mono (q .set j) _ _ 0 (omega (arith, h .rises j l))))
     where
       still : (j : ℕ) → j < P .count → T (q .set j) → left (round z) j ≡ left z j → z j ≡ round z j
       still j l t e =
           omega (
             arith,
-            orElse-yes (q .set j) (y j - round z j) 0 t,
-            orElse-yes (q .set j) (y j - z j) 0 t,
+            cond-yes (q .set j) (y j - round z j) 0 t,
+            cond-yes (q .set j) (y j - z j) 0 t,
             h .rises j l,
             round-low z h .least y kept j l t,
           )
@@ -144,17 +143,17 @@ module _ (P : Problem) (q : Asked) (closed : Closed P q) (y : Plan) (kept : Keep
             ends = λ j l t. omega (arith, is j t, h .least y kept j l t, kept .ends j l t);
           };
           least = λ x k j l t. omega (arith, is j t, h .least x k j l t);
-          out = λ j l n. orElse-no (q .set j) (z j) 65535 n;
+          out = λ j l n. cond-no (q .set j) (z j) 65535 n;
         },
         λ j l t. ⊎-elim (λ e. inl (omega (arith, is j t, d j l t))) (λ r. inr (r .0, r .1, r .2, omega (arith, is j t, is (r .0) (closed (r .0) j (r .1) l (r .2) .0), d j l t, r .3)))
             (push-at P q z j (P .count)),
       )
         where
           w : Plan
-          w j = orElse (q .set j) (z j) 65535
+          w j = cond (q .set j) (z j) 65535
 
           is : (j : ℕ) → T (q .set j) → w j ≡ z j
-          is j t = orElse-yes (q .set j) (z j) 65535 t
+          is j t = cond-yes (q .set j) (z j) 65535 t
 
 -- ── uniqueness, and a pair of a job with itself ──
 

@@ -2,13 +2,12 @@
 -- Assumes nothing.
 use mathlib.Core.Path.{_≡_, refl}
 use mathlib.Core.Logic.{_⊎_, inl, inr, ⊎-elim}
-use mathlib.Core.Bool.{Bool, true, false}
+use mathlib.Core.Bool.{Bool, true, false, cond}
 use Prim.Native.Nat.{ℕ, zero, suc, _+_, _≤_, _<_, min, max}
 use native.Mathlib.Omega.{arith}
 use native.Mathlib.Decide.{decLt}
 use lib.Dec.{T, ltb, ltb→lt, lt→ltb}
 use Rattle.facts.proofs.Bools.{below-suc}
-use Rattle.rules.specs.Estimates.{orElse}
 
 -- f 0 + .. + f (n - 1)
 unfoldable pub sum : (ℕ → ℕ) → ℕ → ℕ
@@ -57,37 +56,34 @@ until {X} step Inv Done μ keep falls x i = go (suc (μ x)) x i (omega arith)
 
 -- ── chains ──
 
-pub orElse-yes : (b : Bool) (m n : ℕ) → T b → orElse b m n ≡ m
-unfolding orElse
-orElse-yes true m n h = refl
-orElse-yes false m n h = absurd h
+pub cond-yes : (b : Bool) (m n : ℕ) → T b → cond b m n ≡ m
+cond-yes true m n h = refl
+cond-yes false m n h = absurd h
 
-pub orElse-no : (b : Bool) (m n : ℕ) → (T b → ⊥) → orElse b m n ≡ n
-unfolding orElse
-orElse-no true m n h = absurd (h tt)
-orElse-no false m n h = refl
+pub cond-no : (b : Bool) (m n : ℕ) → (T b → ⊥) → cond b m n ≡ n
+cond-no true m n h = absurd (h tt)
+cond-no false m n h = refl
 
-pub orElse-mono : (b : Bool) (m n o : ℕ) → m ≤ n → orElse b m o ≤ orElse b n o
-unfolding orElse
-orElse-mono true m n o l = l
-orElse-mono false m n o l = omega arith
+pub cond-mono : (b : Bool) (m n o : ℕ) → m ≤ n → cond b m o ≤ cond b n o
+cond-mono true m n o l = l
+cond-mono false m n o l = omega arith
 
 -- the weight of a where it stands below v
 abbrev under : (f w : ℕ → ℕ) → ℕ → ℕ → ℕ
-under f w v a = orElse (ltb (f a) v) (w a) 0
+under f w v a = cond (ltb (f a) v) (w a) 0
 
 under-le : (f w : ℕ → ℕ) (v a : ℕ) → under f w v a ≤ w a
 under-le f w v a = go (decLt (f a) v)
   where
     go : Dec (f a < v) → under f w v a ≤ w a
-    go (yes l) = omega (arith, orElse-yes (ltb (f a) v) (w a) 0 (lt→ltb (f a) v l))
-    go (no l) = omega (arith, orElse-no (ltb (f a) v) (w a) 0 (λ x. l (ltb→lt (f a) v x)))
+    go (yes l) = omega (arith, cond-yes (ltb (f a) v) (w a) 0 (lt→ltb (f a) v l))
+    go (no l) = omega (arith, cond-no (ltb (f a) v) (w a) 0 (λ x. l (ltb→lt (f a) v x)))
 
 under-self : (f w : ℕ → ℕ) (v a : ℕ) → v ≤ f a → under f w v a ≡ 0
-under-self f w v a l = orElse-no (ltb (f a) v) (w a) 0 (λ x. omega (arith, ltb→lt (f a) v x))
+under-self f w v a l = cond-no (ltb (f a) v) (w a) 0 (λ x. omega (arith, ltb→lt (f a) v x))
 
 under-in : (f w : ℕ → ℕ) (v a : ℕ) → f a < v → under f w v a ≡ w a
-under-in f w v a l = orElse-yes (ltb (f a) v) (w a) 0 (lt→ltb (f a) v l)
+under-in f w v a l = cond-yes (ltb (f a) v) (w a) 0 (lt→ltb (f a) v l)
 
 under-mono : (f w : ℕ → ℕ) (u v a : ℕ) → u ≤ v → under f w u a ≤ under f w v a
 under-mono f w u v a l = go (decLt (f a) u)

@@ -56,26 +56,27 @@ unfoldable pub between : (least most n : ℕ) → Bool
 between l m n = leb l n && leb n m
 
 -- the word has a fact at or above the atom count
-unfoldable pub strays : Problem → ℕ → Bool
-strays P w = any (λ p. leb (P .atoms) p && has w p) 64
+unfoldable pub strays : (atoms w : ℕ) → Bool
+strays atoms w = any (λ p. leb atoms p && has w p) 64
 
 -- job i has such a fact
 unfoldable pub jobStrays : Problem → ℕ → Bool
-jobStrays P i = strays P (P .conditions i) || (strays P (P .additions i) || strays P (P .deletions i))
+jobStrays P i = strays (P .atoms) (P .conditions i) || (strays (P .atoms) (P .additions i) || strays (P .atoms) (P .deletions i))
 
 -- job i adds and deletes one fact
 unfoldable pub undoes : Problem → ℕ → Bool
 undoes P i = any (λ p. has (P .additions i) p && has (P .deletions i) p) 64
 
+-- checks 6 to 8
+unfoldable pub jobChecks : Problem → Verdict → Verdict
+jobChecks P next =
+    refuseAt (λ i. not (between 1 960 (P .duration i))) (P .count) 6
+    (refuseAt (jobStrays P) (P .count) 7
+    (refuseIf (strays (P .atoms) (P .opening) || strays (P .atoms) (P .goals)) 7 24 (refuseAt (undoes P) (P .count) 8 next)))
+
 -- checks 4 to 8
 unfoldable pub tableChecks : Problem → Verdict → Verdict
-tableChecks P next =
-    refuseIf (not (between 1 64 (P .atoms))) 4 0
-    (refuseIf (ltb 24 (P .count)) 5 0
-    (refuseAt (λ i. not (between 1 960 (P .duration i))) (P .count) 6
-    (refuseAt (jobStrays P) (P .count) 7
-    (refuseIf (strays P (P .opening) || strays P (P .goals)) 7 24
-    (refuseAt (undoes P) (P .count) 8 next)))))
+tableChecks P next = refuseIf (not (between 1 64 (P .atoms))) 4 0 (refuseIf (ltb 24 (P .count)) 5 0 (jobChecks P next))
 
 -- check 9
 unfoldable pub boundCheck : ℕ → Verdict → Verdict

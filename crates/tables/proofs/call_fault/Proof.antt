@@ -1,0 +1,64 @@
+use mathlib.Core.Path.{_∙_}
+use native.Mathlib.Omega.{arith}
+use lib.Dec.{lt→ltb, ltb→lt}
+use Rattle.facts.proofs.Bools.{test-yes, test-no}
+use Rattle.rules.specs.Table.{tableChecks}
+use Rattle.rules.proofs.Refused.{if-hit, if-pass}
+use Rattle.rules.proofs.Checked.{in-range}
+use Rattle.tables.proofs.Laws.{said}
+use borrow.Author.Needs.{needs}
+use Rattle.tables.proofs.call_fault.Statement.{statement}
+use Rattle.tables.proofs.call_fault.Tie as tie
+
+too-short-requires : tie.Need-too-short-requires
+too-short-requires c κs = search needs
+
+refuse-requires : tie.Need-refuse-requires
+refuse-requires c κs = search needs
+
+returns : tie.Need-returns
+unfolding tableChecks
+returns c = c .refuse .ensures ∙ said 0 0 (if-hit _ 3 0 _ (test-yes (c .before .before .too-short .ensures) (c .before .if1 .taken)))
+
+cast-outside : tie.Need-cast-outside
+cast-outside c = search needs
+
+outside-requires : tie.Need-outside-requires
+outside-requires c κs = search needs
+
+refuse-requires-2 : tie.Need-refuse-requires-2
+refuse-requires-2 c κs = search needs
+
+returns-2 : tie.Need-returns-2
+unfolding tableChecks
+returns-2 c = c .refuse2 .ensures ∙ said 0 0 (if-pass _ 3 0 _ (test-no (c .before .before .before .before .before .too-short .ensures) (c .before .before .before .before .if1 .left)) ∙ if-hit _ 4 0 _ (test-yes (c .before .before .outside .ensures) (c .before .if2 .taken)))
+
+refuse-requires-3 : tie.Need-refuse-requires-3
+refuse-requires-3 c κs = search needs
+
+returns-3 : tie.Need-returns-3
+unfolding tableChecks
+returns-3 c = c .refuse3 .ensures ∙ said 0 0 (if-pass _ 3 0 _ (test-no (c .before .before .before .before .before .before .before .too-short .ensures) (c .before .before .before .before .before .before .if1 .left)) ∙ if-pass _ 4 0 _ (test-no (c .before .before .before .before .outside .ensures) (c .before .before .before .if2 .left)) ∙ if-hit _ 5 0 _ (lt→ltb 24 _ (c .before .if3 .taken)))
+
+jobs-fault-requires : tie.Need-jobs-fault-requires
+jobs-fault-requires c κs = (omega arith, in-range 1 64 _ (test-no (c .before .before .before .outside .ensures) (c .before .before .if2 .left)) .1)
+
+returns-4 : tie.Need-returns-4
+unfolding tableChecks
+returns-4 c = c .jobs-fault .ensures ∙ said 0 0 (if-pass _ 3 0 _ (test-no (c .before .before .before .before .before .before .before .too-short .ensures) (c .before .before .before .before .before .before .if1 .left)) ∙ if-pass _ 4 0 _ (test-no (c .before .before .before .before .outside .ensures) (c .before .before .before .if2 .left)) ∙ if-pass _ 5 0 _ (λ h. omega (arith, ltb→lt 24 (c .before .before .before .before .before .before .before .before .args .q .jobs) h)))
+
+pub call-fault-spec : {M : Type 1} → statement M
+call-fault-spec =
+    tie.close
+    (tie.spec
+    too-short-requires
+    refuse-requires
+    returns
+    cast-outside
+    outside-requires
+    refuse-requires-2
+    returns-2
+    refuse-requires-3
+    returns-3
+    jobs-fault-requires
+    returns-4)

@@ -1,0 +1,52 @@
+use borrow.Author.Needs.{needs}
+use native.Mathlib.Omega.{arith}
+use Prim.Native.Nat.{ℕ, _-_, _≤_, _<_}
+use lib.Dec.{T}
+use borrow.Author.Count.{below-more}
+use Rattle.facts.proofs.Bools.{test-yes, test-no}
+use Rattle.facts.proofs.Least.{least-is}
+use Rattle.rules.specs.Table.{undoes}
+use Rattle.tables.specs.Tables.{problem}
+use Rattle.tables.proofs.first_undone.Statement.{statement}
+use Rattle.tables.proofs.first_undone.Tie as tie
+
+abbrev Inv-loop : tie.InvT-loop
+Inv-loop l q n i₀ i = (i ≤ n) × ((k : ℕ) → k < i → T ((undoes (problem l q)) k) → ⊥)
+
+abbrev μ-loop : tie.MeasureT-loop
+μ-loop l q n i₀ i = n - i
+
+loop-holds : tie.Need-loop-holds Inv-loop μ-loop
+loop-holds c = (omega arith, λ k h. absurd (omega arith))
+
+job-undoes-requires : tie.Need-job-undoes-requires Inv-loop μ-loop
+job-undoes-requires c κs = search needs
+
+returns : tie.Need-returns Inv-loop μ-loop
+returns c = least-is _ _ _ (record { within = omega arith; hit = λ h. test-yes (c .before .job-undoes .ensures) (c .if1 .taken); first = c .before .before .before .loop .inv .1 })
+
+add-i : tie.Need-add-i Inv-loop μ-loop
+add-i c = search needs
+
+loop-less : tie.Need-loop-less Inv-loop μ-loop
+loop-less c = search needs
+
+loop-again : tie.Need-loop-again Inv-loop μ-loop
+loop-again c = (omega arith, below-more _ _ (c .before .before .before .loop .inv .1) (test-no (c .before .job-undoes .ensures) (c .if1 .left)))
+
+returns-2 : tie.Need-returns-2 Inv-loop μ-loop
+returns-2 c = least-is _ _ _ (record { within = omega arith; hit = λ h. absurd (omega arith); first = λ k h. c .before .loop .inv .1 k (omega arith) })
+
+pub first-undone-spec : {M : Type 1} → statement M
+first-undone-spec =
+    tie.close
+    (tie.spec
+    Inv-loop
+    μ-loop
+    loop-holds
+    job-undoes-requires
+    returns
+    add-i
+    loop-less
+    loop-again
+    returns-2)
