@@ -3,7 +3,7 @@
 use mathlib.Core.Path.{_≡_}
 use mathlib.Core.Logic.{_⊎_, inl, inr, _≢_}
 use mathlib.Core.Bool.{Bool, not, _&&_, _||_}
-use Prim.Native.Nat.{ℕ, _^_, _≤_, _<_}
+use Prim.Native.Nat.{ℕ, _≤_, _<_}
 use native.Mathlib.Omega.{arith}
 use native.Mathlib.Decide.{decLt}
 use lib.Dec.{T, leb, ltb, leb→le, le→leb, lt→ltb}
@@ -11,9 +11,8 @@ use Rattle.facts.specs.Facts.{has}
 use Rattle.facts.specs.Least.{any}
 use Rattle.facts.proofs.Bools.{and-l, and-r, and-of, or-l, or-r, certain}
 use Rattle.facts.proofs.Least.{any-of}
-use Rattle.facts.proofs.Sets.{has-lt}
 use Rattle.rules.specs.Refusals.{Verdict, accepted}
-use Rattle.rules.specs.Table.{Problem, Words, InOrder, needs, adds, deletes, between, strays, jobStrays, undoes, jobChecks, tableChecks, boundCheck}
+use Rattle.rules.specs.Table.{Problem, Below, InOrder, needs, adds, deletes, between, strays, jobStrays, undoes, jobChecks, tableChecks, boundCheck}
 use Rattle.rules.proofs.Refused.{if-zero, at-zero}
 
 -- what passing checks 4 to 8 says
@@ -54,16 +53,20 @@ passed P h =
       pure = λ i l x. f .0 (any-of (undoes P) (P .count) i l x);
     }
 
--- so the laws speak of every table that is accepted
-pub in-order : (P : Problem) → Words P → tableChecks P accepted ≡ accepted → InOrder P
+-- so the laws speak of every table that is accepted: its facts are below the atom count, as a word of 64 bits shows them
+pub in-order : (P : Problem) → tableChecks P accepted ≡ accepted → ((i : ℕ) → i < P .count → Below (P .atoms) (P .conditions i))
+    → ((i : ℕ) → i < P .count → Below (P .atoms) (P .deletions i)) → Below (P .atoms) (P .goals) → InOrder P
 unfolding undoes
-in-order P w h =
-    let k : Passed P = passed P h in
-    record {
-      long = λ i l. k .durations i l .0;
-      pure = λ i p l x y. k .pure i l
-          (any-of (λ q. has (P .additions i) q && has (P .deletions i) q) 64 p (has-lt 64 (P .deletions i) p (w .deletions i) y) (and-of (has (P .additions i) p) _ x y));
-      needed = λ i p l x. has-lt 64 (P .conditions i) p (w .conditions i) x;
-      deleted = λ i p l x. has-lt 64 (P .deletions i) p (w .deletions i) x;
-      wanted = λ p x. has-lt 64 (P .goals) p (w .goals) x;
-    }
+in-order P h needed deleted wanted = record {
+  long = λ i l. k .durations i l .0;
+  pure = λ i p l x y. k .pure i l (any-of (λ q. has (P .additions i) q && has (P .deletions i) q) 64 p (below p (deleted i l p y)) (and-of (has (P .additions i) p) _ x y));
+  needed = λ i l p x. below p (needed i l p x);
+  deleted = λ i l p x. below p (deleted i l p x);
+  wanted = λ p x. below p (wanted p x);
+}
+  where
+    k : Passed P
+    k = passed P h
+
+    below : (p : ℕ) → p < P .atoms → p < 64
+    below p l = omega (arith, k .atoms .1)

@@ -57,7 +57,7 @@ module _ (P : Problem) where
     unfolding interfere spoils
     clash d j p l ne x y =
         and-of (not (eqb d j)) _ (not-eqb d j ne)
-        (or-l (any (spoils P d j) 64) _ (any-of (spoils P d j) 64 p (ok .deleted d p l x) (and-of (has (P .deletions d) p) _ x (go y))))
+        (or-l (any (spoils P d j) 64) _ (any-of (spoils P d j) 64 p (ok .deleted d l p x) (and-of (has (P .deletions d) p) _ x (go y))))
       where
         go : needs P j p ⊎ adds P j p → T (has (P .conditions j) p || has (P .additions j) p)
         go (inl h) = or-l (has (P .conditions j) p) _ h

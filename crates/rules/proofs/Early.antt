@@ -209,7 +209,7 @@ module _ (P : Problem) (ok : InOrder P) (est est′ : ℕ → ℕ) (x : Estimate
   job-most v f i k l = go (dearest-at P est′ i 64)
     where
       dear : (p : ℕ) → needs P i p → condition P est p ≤ est i
-      dear p n = let d : condition P est p ≤ dearest P est i 64 = dearest-ge P est i 64 p (ok .needed i p k n) n in omega (arith, x i k)
+      dear p n = let d : condition P est p ≤ dearest P est i 64 = dearest-ge P est i 64 p (ok .needed i k p n) n in omega (arith, x i k)
 
       less : (p : ℕ) → needs P i p → T (has (P .opening) p) ⊎ (T (has (P .opening) p) → ⊥) → condition P est′ p ≤ est i
       less p n (inl o) = omega (arith, condition-free P est′ p o)

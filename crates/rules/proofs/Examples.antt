@@ -13,7 +13,7 @@ use Rattle.facts.proofs.Bools.{certain}
 use Rattle.facts.proofs.Least.{lowest}
 use Rattle.rules.specs.Refusals.{accepted, refused, refuseIf, refuseAt}
 use Rattle.rules.specs.Table.{Problem, listed, between, strays, jobStrays, undoes, jobChecks, tableChecks, boundCheck}
-use Rattle.rules.specs.Plans.{Plan, inPlan, spoils, interfere, ends, afterIf, finishes, holds}
+use Rattle.rules.specs.Plans.{Plan, starts, inPlan, spoils, interfere, ends, afterIf, finishes, holds}
 use Rattle.rules.specs.Verdicts.{late, overlap, clashes, unready, missing, planChecks}
 use Rattle.rules.specs.Supports.{job, blocks, startFits, jobFits, Support, by, name, named, byteIf, byteOf, supportByte}
 use Rattle.rules.specs.Pairs.{isJob, feeds, binds, inOrder, pairIf, pairBytes}
@@ -22,10 +22,6 @@ use Rattle.rules.specs.Estimates.{plus, cheapest, cost, condition, deare
 -- unpack, drench, warm, wash; five facts, open {0}
 abbrev pub jobsU : (goals : ℕ) → Problem
 jobsU goals = listed 4 (1 ∷ 2 ∷ 2 ∷ 2 ∷ []) (2 ∷ 4 ∷ 8 ∷ 16 ∷ []) (1 ∷ 0 ∷ 0 ∷ 4 ∷ []) (4 ∷ 2 ∷ 8 ∷ 3 ∷ []) 5 1 goals
-
--- starts by a list
-abbrev pub starts : List ℕ → Plan
-starts l i = getD l i 0
 
 -- what all numbers below n pass by the checker's computation
 all : (f : ℕ → Bool) (n : ℕ) → least (λ i. not (f i)) n ≡ n → (i : ℕ) → i < n → T (f i)

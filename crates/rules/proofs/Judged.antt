@@ -73,7 +73,7 @@ module _ (P : Problem) (ok : InOrder P) (bound : ℕ) (s : Plan) where
       ready : (i p : ℕ) → In P s i → needs P i p → T (holds P s p (s i - P .gap))
       ready i p k n = certain (holds P s p (s i - P .gap)) (λ y. h .all-ready (any-of (unready P s) (P .count) i (k .below)
           (and-of (inPlan s i) _ (k .chosen)
-          (any-of (λ p. has (P .conditions i) p && not (holds P s p (s i - P .gap))) 64 p (ok .needed i p (k .below) n) (and-of (has (P .conditions i) p) _ n y)))))
+          (any-of (λ p. has (P .conditions i) p && not (holds P s p (s i - P .gap))) 64 p (ok .needed i (k .below) p n) (and-of (has (P .conditions i) p) _ n y)))))
 
       reached : (p : ℕ) → T (has (P .goals) p) → T (holds P s p bound)
       reached p g = certain (holds P s p bound) (λ y. h .none-missing (any-of (missing P bound s) 64 p (ok .wanted p g) (and-of (has (P .goals) p) _ g y)))

@@ -75,7 +75,7 @@ module _ (P : Problem) (s : Plan) where
   feeds-of : InOrder P → (a b : ℕ) → b < P .count → Feeds P s a b → T (feeds P s a b)
   unfolding feeds
   feeds-of ok a b l f =
-      any-of (λ p. has (P .conditions b) p && isJob a (named P s p (job P s b))) 64 (f .fact) (ok .needed b (f .fact) l (f .wanted))
+      any-of (λ p. has (P .conditions b) p && isJob a (named P s p (job P s b))) 64 (f .fact) (ok .needed b l (f .fact) (f .wanted))
       (and-of (has (P .conditions b) (f .fact)) _ (f .wanted) (rw (f .chosen) (job-is a)))
 
   pub binds-at : (a b : ℕ) → a < P .count → b < P .count → T (binds P s a b) → Binds P s a b

@@ -3,7 +3,7 @@
 use mathlib.Core.Path.{_≡_}
 use mathlib.Core.Bool.{Bool, not, _&&_, _||_}
 use mathlib.Core.List.{List}
-use Prim.Native.Nat.{ℕ, _^_, _≤_, _<_}
+use Prim.Native.Nat.{ℕ, _≤_, _<_}
 use lib.Dec.{T, leb, ltb}
 use lib.ListN.{getD}
 use Rattle.facts.specs.Facts.{has}
@@ -82,18 +82,14 @@ tableChecks P next = refuseIf (not (between 1 64 (P .atoms))) 4 0 (refuseIf (ltb
 unfoldable pub boundCheck : ℕ → Verdict → Verdict
 boundCheck bound next = refuseIf (ltb 2880 bound) 9 0 next
 
--- a word of facts has 64 bits, in the table and beside it
-pub record Words (P : Problem) : Type 0 where
-  pub conditions : (i : ℕ) → P .conditions i < 2 ^ 64
-  pub additions : (i : ℕ) → P .additions i < 2 ^ 64
-  pub deletions : (i : ℕ) → P .deletions i < 2 ^ 64
-  pub opening : P .opening < 2 ^ 64
-  pub goals : P .goals < 2 ^ 64
+-- every fact of the word is below n
+abbrev pub Below : (n w : ℕ) → Type 0
+Below n w = (p : ℕ) → T (has w p) → p < n
 
 -- what the laws need of a table, all of which checks 4 to 8 give
 pub record InOrder (P : Problem) : Type 0 where
   pub long : (i : ℕ) → i < P .count → 1 ≤ P .duration i
   pub pure : (i p : ℕ) → i < P .count → adds P i p → deletes P i p → ⊥
-  pub needed : (i p : ℕ) → i < P .count → needs P i p → p < 64
-  pub deleted : (i p : ℕ) → i < P .count → deletes P i p → p < 64
-  pub wanted : (p : ℕ) → T (has (P .goals) p) → p < 64
+  pub needed : (i : ℕ) → i < P .count → Below 64 (P .conditions i)
+  pub deleted : (i : ℕ) → i < P .count → Below 64 (P .deletions i)
+  pub wanted : Below 64 (P .goals)

@@ -5,8 +5,8 @@ ghost use Prim.Native.Nat.{ℕ, _≤_, _<_};
 ghost use lib.Dec.{ltb};
 ghost use Rattle.facts.specs.Least.{least};
 ghost use Rattle.rules.specs.Refusals.{accepted, refused};
-ghost use Rattle.rules.specs.Table.{between, strays, jobStrays, undoes, jobChecks};
-ghost use Rattle.tables.specs.Tables.{problem, answer, callChecks};
+ghost use Rattle.rules.specs.Table.{between, strays, jobStrays, undoes, jobChecks, Below, InOrder};
+ghost use Rattle.tables.specs.Tables.{problem, answer, callChecks, JobBelow, Narrow, Tests, Finds, Judges};
 
 // The first 24 records that were lent, field by field, and how many were lent.
 pub struct Loaded {
@@ -48,7 +48,7 @@ pub fn done(value: u32) -> Answer
 // The word has a fact at or above the atom count.
 pub fn word_strays(w: u64, atoms: usize) -> bool
     requires { ⌜ atoms ≤ 64 ⌝ }
-    ensures { λ r. ⌜ r ≡ strays atoms w ⌝ }
+    ensures { λ r. ⌜ Tests (strays atoms w) (Below atoms w) r ⌝ }
 {
     if atoms == 64 {
         return false;
@@ -83,7 +83,7 @@ pub fn first_duration(l: Loaded, q: Ask) -> usize
 // Job i has a fact at or above the atom count.
 pub fn job_strays(l: Loaded, q: Ask, i: usize) -> bool
     requires { ⌜ (i < 24) × (q .atoms ≤ 64) ⌝ }
-    ensures { λ r. ⌜ r ≡ jobStrays (problem l q) i ⌝ }
+    ensures { λ r. ⌜ Tests (jobStrays (problem l q) i) (JobBelow (problem l q) i) r ⌝ }
 {
     let atoms = q.atoms as usize;
     word_strays(l.conditions[i], atoms)
@@ -93,7 +93,7 @@ pub fn job_strays(l: Loaded, q: Ask, i: usize) -> bool
 // The lowest job that has one, or n.
 pub fn first_stray(l: Loaded, q: Ask) -> usize
     requires { ⌜ (q .jobs ≤ 24) × (q .atoms ≤ 64) ⌝ }
-    ensures { λ r. ⌜ r ≡ least (jobStrays (problem l q)) (q .jobs) ⌝ }
+    ensures { λ r. ⌜ Finds (jobStrays (problem l q)) (q .jobs) ((i : ℕ) → i < q .jobs → JobBelow (problem l q) i) r ⌝ }
 {
     let n = q.jobs;
     for i in 0..n {
@@ -107,7 +107,7 @@ pub fn first_stray(l: Loaded, q: Ask) -> usize
 // The opening facts or the goals have a fact at or above the atom count.
 pub fn edges_stray(q: Ask) -> bool
     requires { ⌜ q .atoms ≤ 64 ⌝ }
-    ensures { λ r. ⌜ r ≡ (strays (q .atoms) (q .opening) || strays (q .atoms) (q .goals)) ⌝ }
+    ensures { λ r. ⌜ Tests (strays (q .atoms) (q .opening) || strays (q .atoms) (q .goals)) (Below (q .atoms) (q .goals)) r ⌝ }
 {
     let atoms = q.atoms as usize;
     word_strays(q.opening, atoms) || word_strays(q.goals, atoms)
@@ -150,7 +150,7 @@ pub fn refuse(number: u8, place: u16, value: u32) -> Answer
 // Checks 6 to 8.
 pub fn jobs_fault(l: Loaded, q: Ask) -> Answer
     requires { ⌜ (q .jobs ≤ 24) × (q .atoms ≤ 64) ⌝ }
-    ensures { λ r. ⌜ r ≡ answer (jobChecks (problem l q) accepted) 0 0 ⌝ }
+    ensures { λ r. ⌜ Judges (jobChecks (problem l q) accepted) (Narrow (problem l q)) r ⌝ }
 {
     let n = q.jobs;
     let long = first_duration(l, q);
@@ -180,7 +180,7 @@ pub fn too_short(short: bool, lent: usize, jobs: usize) -> bool
 
 // Checks 3 to 8; `short` says that lent memory beside the table is too short.
 pub fn call_fault(l: Loaded, q: Ask, short: bool) -> Answer
-    ensures { λ r. ⌜ r ≡ answer (callChecks short l q accepted) 0 0 ⌝ }
+    ensures { λ r. ⌜ Judges (callChecks short l q accepted) (InOrder (problem l q)) r ⌝ }
 {
     if too_short(short, l.lent, q.jobs) {
         return refuse(3, 0, 0);

@@ -4,7 +4,7 @@ use Rattle.tables.proofs.word_strays.Statement.{statement}
 use Rattle.tables.proofs.word_strays.Tie as tie
 
 returns : tie.Need-returns
-returns c = rw (c .if1 .taken) (strays-none (c .before .args .w))
+returns c = rw (c .if1 .taken) (strays-none (c .before .args .w) (c .before .fits .w .fits))
 
 shr-result : tie.Need-shr-result
 shr-result c = search needs

@@ -1,0 +1,42 @@
+-- A lent table that is filled place by place.
+-- Assumes nothing.
+use mathlib.Core.Path.{_≡_, refl, sym, ap, ap₂, _∙_, subst}
+use mathlib.Core.Logic.{_⊎_, inl, inr, _≢_, ⊎-elim}
+use mathlib.Core.List.{List}
+use Prim.Native.Nat.{ℕ, zero, suc, _+_, _≤_, _<_}
+use native.Mathlib.Omega.{arith}
+use native.Mathlib.Numerals.{add-one}
+use lib.ListN.{length, getD, set, length-set}
+use lib.Seq.{getD-set-same, getD-set-other, ext-getD}
+use Rattle.facts.proofs.Bools.{below-suc}
+use Rattle.tables.specs.Tables.{filled}
+
+pub length-filled : (f : ℕ → ℕ) (n : ℕ) (xs : List ℕ) → length (filled f n xs) ≡ length xs
+unfolding filled
+length-filled f zero xs = refl
+length-filled f (suc k) xs = length-set (filled f k xs) k (f k) ∙ length-filled f k xs
+
+-- one place more, as a loop's counter says it
+pub filled-more : (f : ℕ → ℕ) (k : ℕ) (xs : List ℕ) → set (filled f k xs) k (f k) ≡ filled f (k + 1) xs
+unfolding filled
+filled-more f k xs = ap (λ (n : ℕ). filled f n xs) (sym (add-one k))
+
+-- what is filled depends on the first n numbers alone
+pub filled-same : (f g : ℕ → ℕ) (n : ℕ) (xs : List ℕ) → ((i : ℕ) → i < n → f i ≡ g i) → filled f n xs ≡ filled g n xs
+unfolding filled
+filled-same f g zero xs h = refl
+filled-same f g (suc k) xs h = ap₂ (λ (ys : List ℕ) (v : ℕ). set ys k v) (filled-same f g k xs (λ i l. h i (omega arith))) (h k (omega arith))
+
+pub filled-at : (f : ℕ → ℕ) (n : ℕ) (xs : List ℕ) (i d : ℕ) → i < n → i < length xs → getD (filled f n xs) i d ≡ f i
+unfolding filled
+filled-at f zero xs i d l m = absurd (omega arith)
+filled-at f (suc k) xs i d l m = go (below-suc i k l) (λ h. filled-at f k xs i d h m)
+  where
+    go : (i < k) ⊎ (i ≡ k) → (i < k → getD (filled f k xs) i d ≡ f i) → getD (set (filled f k xs) k (f k)) i d ≡ f i
+    go (inl h) r = getD-set-other (filled f k xs) k i (f k) d (λ e. omega arith) ∙ r h
+    go (inr e) r = rw e (getD-set-same (filled f k xs) k (f k) d (omega (arith, length-filled f k xs)))
+
+pub filled-rest : (f : ℕ → ℕ) (n : ℕ) (xs : List ℕ) (i d : ℕ) → n ≤ i → getD (filled f n xs) i d ≡ getD xs i d
+unfolding filled
+filled-rest f zero xs i d l = refl
+filled-rest f (suc k) xs i d l = getD-set-other (filled f k xs) k i (f k) d (λ e. omega arith) ∙ filled-rest f k xs i d (omega arith)
