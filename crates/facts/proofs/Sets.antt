@@ -4,13 +4,13 @@ use mathlib.Core.Path.{_≡_, refl, sym, ap, _∙_, subst}
 use mathlib.Core.Bool.{Bool, true, false, not, _&&_, _||_}
 use mathlib.Core.Logic.{_⊎_, inl, inr, _≢_, _↔_}
 use Prim.Native.Nat.{ℕ, _+_, _-_, _/_, _%_, _^_, _≤_, _<_, min, max}
-use native.Mathlib.Nat.{lt-of-le-of-lt, div-div-eq-div-mul}
+use native.Mathlib.Nat.{lt-of-le-of-lt, div-div-eq-div-mul, div-lt-iff-lt-mul, one-mul}
 use native.Mathlib.Omega.{arith}
-use native.Mathlib.Decide.{decLt}
+use native.Mathlib.Decide.{decLt, ℕ-discrete}
 use lib.Arith.{lt-of-le-ne}
 use lib.Count.{trailingZeros, trailing-le}
 use lib.Dec.{T, eqb, eqb→eq, T-not, not-T}
-use lib.Pow.{pow-lt, pow-add}
+use lib.Pow.{pow-lt, pow-add, pow-pos}
 use lib.Bits.{bitAnd, bitOr, and-le-l, and-le-r}
 use Rattle.facts.specs.Facts.{has, Word, Covers, Meets, after}
 use Rattle.facts.specs.Least.{least, any}
@@ -160,6 +160,14 @@ high-and k w = (there, back)
     back (p, l, h) z =
         let e : k + (p - k) ≡ p = omega arith in
         has-zero (p - k) (subst (λ (x : ℕ). T (has x (p - k))) z (subst T (sym (has-shr k w (p - k))) (subst (λ (x : ℕ). T (has w x)) (sym e) h)))
+
+-- a word whose facts are all below k is below 2 ^ k
+pub below-pow : (k w : ℕ) → ((p : ℕ) → T (has w p) → p < k) → w < 2 ^ k
+below-pow k w h = go (ℕ-discrete (w / 2 ^ k) 0)
+  where
+    go : Dec (w / 2 ^ k ≡ 0) → w < 2 ^ k
+    go (yes e) = rw one-mul at (div-lt-iff-lt-mul (pow-pos k) .0 (subst (λ (x : ℕ). x < 1) (sym e) (omega arith)))
+    go (no n) = let y = high-and k w .0 n in absurd (omega (arith, h (y .0) (y .2), y .1))
 
 -- the lowest fact below k, or k
 pub lowest-fact : (k w : ℕ) → trailingZeros k w ≡ least (has w) k

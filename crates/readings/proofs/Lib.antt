@@ -1,0 +1,3 @@
+pub mod Loops
+pub mod Words
+pub mod Answers

@@ -1,0 +1,54 @@
+-- `readings::first_bad` meets its contract: no mark passed is out of range. Assumes nothing.
+use mathlib.Core.Path.{_≡_, _∙_}
+use Prim.Native.Nat.{ℕ, _≤_, _<_, _-_}
+use native.Mathlib.Omega.{arith}
+use lib.Dec.{T}
+use mir.Syntax.{w16}
+use mir.ValLaws.{toZ-ofZ}
+use denote.Ref.{now}
+use borrow.Author.Count.{below-more}
+use borrow.Author.Needs.{needs}
+use Rattle.facts.proofs.Bools.{test-yes, test-no}
+use Rattle.facts.proofs.Least.{least-is}
+use Rattle.readings.specs.Marks.{markAt, bad}
+use Rattle.readings.proofs.first_bad.Statement.{statement}
+use Rattle.readings.proofs.first_bad.Tie as tie
+
+abbrev Inv-loop : tie.InvT-loop
+Inv-loop channels levels facts count i₀ i = (i ≤ count) × ((k : ℕ) → k < i → T (bad (markAt channels levels facts k)) → ⊥)
+
+abbrev μ-loop : tie.MeasureT-loop
+μ-loop channels levels facts count i₀ i = count - i
+
+loop-holds : tie.Need-loop-holds Inv-loop μ-loop
+loop-holds c = (search needs, λ k l. absurd (omega arith))
+
+mark-at-requires : tie.Need-mark-at-requires Inv-loop μ-loop
+mark-at-requires c κs = omega arith
+
+bad-requires : tie.Need-bad-requires Inv-loop μ-loop
+bad-requires c κs = search needs
+
+-- what the test of mark i says
+test-is : (c : tie.After-bad Inv-loop μ-loop) → let a = c .before .before .before .before .before .before .before .args in c .bad .result ≡ bad (markAt (now (a .channels)) (now (a .levels)) (now (a .facts)) (c .before .before .before .before .loop .i))
+test-is c =
+    let mark = c .before .before .mark-at in
+    c .bad .ensures ∙ rw (toZ-ofZ w16 (mark .result .level) (record { sfits = c .before .struct-told .given .1 .0 .1 }), mark .ensures)
+
+returns : tie.Need-returns Inv-loop μ-loop
+returns c = least-is _ _ _ (record { within = omega arith; hit = λ l. test-yes (test-is (c .before)) (c .if1 .taken); first = c .before .before .before .before .before .loop .inv .1 })
+
+add-i : tie.Need-add-i Inv-loop μ-loop
+add-i c = search needs
+
+loop-less : tie.Need-loop-less Inv-loop μ-loop
+loop-less c = search needs
+
+loop-again : tie.Need-loop-again Inv-loop μ-loop
+loop-again c = (search needs, below-more _ _ (c .before .before .before .before .before .loop .inv .1) (test-no (test-is (c .before)) (c .if1 .left)))
+
+returns-2 : tie.Need-returns-2 Inv-loop μ-loop
+returns-2 c = least-is _ _ _ (record { within = search needs; hit = λ l. absurd (omega arith); first = λ i l. c .before .loop .inv .1 i (omega arith) })
+
+pub first-bad-spec : {M : Type 1} → statement M
+first-bad-spec = tie.close (tie.spec Inv-loop μ-loop loop-holds mark-at-requires bad-requires returns add-i loop-less loop-again returns-2)

@@ -1,0 +1,5 @@
+pub mod Largest
+pub mod Floor
+pub mod Parts
+pub mod Range
+pub mod Cases

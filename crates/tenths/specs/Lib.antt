@@ -1,0 +1,3 @@
+pub mod Tenths
+pub mod Bits
+pub mod Cases

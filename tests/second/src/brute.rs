@@ -1,0 +1,80 @@
+//! Two slow ways to the first plan, for the self-test only: every start vector in the stated order,
+//! and every order of jobs with each job as early as the ones before it allow.
+
+use crate::rules::{check_plan, facts_at, finish, interfere, Problem, OUT};
+
+/// The next value of a start in the stated order: out, 0, 1 and so on, while the job ends by the bound.
+fn next_start(problem: &Problem, job: usize, start: u16) -> Option<u16> {
+    let next = if start == OUT { 0 } else { start + 1 };
+    (next + problem.jobs[job].duration <= problem.bound).then_some(next)
+}
+
+/// Steps to the next vector; the last job moves fastest. False behind the last vector.
+fn step(problem: &Problem, starts: &mut [u16]) -> bool {
+    for job in (0..starts.len()).rev() {
+        match next_start(problem, job, starts[job]) {
+            Some(start) => {
+                starts[job] = start;
+                return true;
+            }
+            None => starts[job] = OUT,
+        }
+    }
+    false
+}
+
+/// The first valid vector.
+pub fn first_plan(problem: &Problem) -> Option<Vec<u16>> {
+    let mut starts = vec![OUT; problem.jobs.len()];
+    loop {
+        if check_plan(problem, &starts).is_ok() {
+            return Some(starts);
+        }
+        if !step(problem, &mut starts) {
+            return None;
+        }
+    }
+}
+
+/// The bounds are tried from 0 on.
+pub fn least_bound(problem: &Problem) -> Option<(u16, Vec<u16>)> {
+    (0..=problem.bound).find_map(|bound| Some((bound, first_plan(&Problem { bound, ..*problem })?)))
+}
+
+/// The job's earliest start at which its conditions hold, with all jobs placed before that interfere with it done.
+fn earliest_place(problem: &Problem, starts: &[u16], job: usize) -> Option<u16> {
+    let jobs = problem.jobs;
+    let last = problem.bound.checked_sub(jobs[job].duration)?;
+    let placed = (0..jobs.len()).filter(|&other| starts[other] != OUT);
+    let free = placed
+        .filter(|&other| interfere(&jobs[job], &jobs[other]))
+        .map(|other| finish(&jobs[other], starts[other]) as u16)
+        .max()
+        .unwrap_or(0);
+    (free..=last).find(|&time| jobs[job].conditions & !facts_at(problem, starts, time as u32) == 0)
+}
+
+/// Every order of jobs that goes on from here; in the stated order of plans, out comes first.
+fn try_orders(problem: &Problem, starts: &mut Vec<u16>, best: &mut Option<Vec<u16>>) {
+    let rank = |plan: &[u16]| plan.iter().map(|start| start.wrapping_add(1)).collect::<Vec<_>>();
+    if check_plan(problem, starts).is_ok() && best.as_ref().is_none_or(|plan| rank(starts) < rank(plan)) {
+        *best = Some(starts.clone());
+    }
+    for job in 0..starts.len() {
+        if starts[job] == OUT {
+            if let Some(start) = earliest_place(problem, starts, job) {
+                starts[job] = start;
+                try_orders(problem, starts, best);
+                starts[job] = OUT;
+            }
+        }
+    }
+}
+
+/// The first plan among those in which every job is as early as its order allows; the first of all is one of them,
+/// since jobs moved earlier in the same order make no plan invalid.
+pub fn first_plan_by_orders(problem: &Problem) -> Option<Vec<u16>> {
+    let mut best = None;
+    try_orders(problem, &mut vec![OUT; problem.jobs.len()], &mut best);
+    best
+}

@@ -1,0 +1,166 @@
+//! A stream of calls: a header of 16 words, the lent records, the given tables; one line of answer a call.
+
+use crate::files::{job_bytes, job_from, read_file, write_file, Saved};
+use crate::plan::{least_bound, plan_within};
+use crate::readings::{opening_facts, Marks, Reading};
+use crate::rules::{binding_pairs, check_offered, estimates, settle, supports, Given, Job, Refusal, OUT};
+use std::io::{self, BufRead, Read, Write};
+
+const WORDS: usize = 16;
+const RECORD: usize = 32;
+
+/// One call as it stands in the stream.
+struct Call {
+    head: [u64; WORDS],
+    records: Vec<Job>,
+    table: Vec<u8>,
+}
+
+fn exactly(input: &mut impl Read, length: u64) -> io::Result<Vec<u8>> {
+    let mut bytes = Vec::new();
+    input.take(length).read_to_end(&mut bytes)?;
+    if (bytes.len() as u64) < length {
+        return Err(io::Error::new(io::ErrorKind::UnexpectedEof, "the stream ends within a call"));
+    }
+    Ok(bytes)
+}
+
+/// The bytes of the given tables: one table, or the three mark tables in a row.
+fn table_length(head: &[u64; WORDS]) -> u64 {
+    match head[0] {
+        10 => head[9].saturating_add(head[10].saturating_mul(2)).saturating_add(head[11]),
+        _ => head[9],
+    }
+}
+
+/// The next call, or nothing at the end of the stream.
+fn next_call(input: &mut impl BufRead) -> io::Result<Option<Call>> {
+    if input.fill_buf()?.is_empty() {
+        return Ok(None);
+    }
+    let mut head = [0; WORDS];
+    for (word, bytes) in head.iter_mut().zip(exactly(input, 8 * WORDS as u64)?.chunks_exact(8)) {
+        *word = bytes.iter().rev().fold(0, |value, &byte| value << 8 | byte as u64);
+    }
+    let records = exactly(input, head[8].saturating_mul(RECORD as u64))?;
+    let table = exactly(input, table_length(&head))?;
+    Ok(Some(Call { head, records: records.chunks_exact(RECORD).map(job_from).collect(), table }))
+}
+
+fn halves(bytes: &[u8]) -> Vec<u16> {
+    bytes.chunks_exact(2).map(|pair| u16::from_le_bytes([pair[0], pair[1]])).collect()
+}
+
+fn hex(bytes: impl IntoIterator<Item = u8>) -> String {
+    bytes.into_iter().map(|byte| format!("{byte:02x}")).collect()
+}
+
+fn hex_of_halves(table: &[u16]) -> String {
+    hex(table.iter().flat_map(|half| half.to_le_bytes()))
+}
+
+/// Number, place and value; on refusal the value is the one kept for it.
+fn told<T: ToString>(result: &Result<T, Refusal>, on_refusal: T) -> String {
+    match result {
+        Ok(value) => format!("0 0 {}", value.to_string()),
+        Err(refusal) => format!("{} {} {}", refusal.number, refusal.place, on_refusal.to_string()),
+    }
+}
+
+fn told_file(result: &Result<Saved, Refusal>) -> String {
+    let line = |saved: &Saved| {
+        format!("{} {} {} {} {}", saved.opening, saved.goals, saved.bound, saved.jobs, saved.atoms)
+    };
+    told(&result.as_ref().map(line).map_err(|refusal| *refusal), line(&Saved::default()))
+}
+
+impl Call {
+    fn given(&self) -> Given<'_> {
+        Given {
+            records: &self.records,
+            count: self.head[1],
+            atoms: self.head[2],
+            opening: self.head[3],
+            goals: self.head[4],
+            bound: self.head[5],
+        }
+    }
+
+    fn lent_bytes(&self) -> Vec<u8> {
+        vec![self.head[11] as u8; self.head[10] as usize]
+    }
+
+    fn lent_halves(&self) -> Vec<u16> {
+        vec![u16::from_le_bytes([self.head[11] as u8; 2]); self.head[10] as usize]
+    }
+
+    /// The line that answers the call.
+    fn answer(&self) -> String {
+        match self.head[0] {
+            1 => told(&check_offered(&self.given(), &halves(&self.table)).map(|_| 0), 0),
+            2 => self.answer_in_halves(|table| plan_within(&self.given(), table).map(|_| 0), 0),
+            3 => self.answer_in_halves(|table| least_bound(&self.given(), table), OUT),
+            4 => {
+                self.answer_in_bytes(|table| supports(&self.given(), &halves(&self.table), table).map(|_| 0))
+            }
+            5 => self.answer_in_bytes(|table| binding_pairs(&self.given(), &halves(&self.table), table)),
+            6 => self.answer_in_halves(|table| estimates(&self.given(), table).map(|_| 0), 0),
+            7 => self.answer_in_halves(
+                |table| settle(&self.given(), self.head[6], self.head[7], &self.table, table).map(|_| 0),
+                0,
+            ),
+            8 => self.answer_reader(),
+            9 => self.answer_writer(),
+            10 => self.answer_readings(),
+            _ => "unknown".to_string(),
+        }
+    }
+
+    fn answer_in_halves(
+        &self,
+        call: impl FnOnce(&mut [u16]) -> Result<u16, Refusal>,
+        on_refusal: u16,
+    ) -> String {
+        let mut table = self.lent_halves();
+        let result = call(&mut table);
+        format!("{} {}", told(&result, on_refusal), hex_of_halves(&table))
+    }
+
+    fn answer_in_bytes(&self, call: impl FnOnce(&mut [u8]) -> Result<u64, Refusal>) -> String {
+        let mut table = self.lent_bytes();
+        let result = call(&mut table);
+        format!("{} {}", told(&result, 0), hex(table))
+    }
+
+    fn answer_reader(&self) -> String {
+        let mut lent = self.records.clone();
+        let result = read_file(&self.table, &mut lent);
+        format!("{} {}", told_file(&result), hex(lent.iter().flat_map(job_bytes)))
+    }
+
+    fn answer_writer(&self) -> String {
+        let mut buffer = self.table.clone();
+        let result = write_file(&self.given(), &mut buffer, self.head[6]);
+        format!("{} {}", told(&result, 0), hex(buffer))
+    }
+
+    fn answer_readings(&self) -> String {
+        let (channels, rest) = self.table.split_at(self.head[9] as usize);
+        let (levels, facts) = rest.split_at(2 * self.head[10] as usize);
+        let levels: Vec<i16> = halves(levels).into_iter().map(|half| half as i16).collect();
+        let marks = Marks { count: self.head[7], channels, levels: &levels, facts };
+        let reading = Reading { temperature: self.head[6], humidity: self.head[12] };
+        told(&opening_facts(self.head[3], reading, &marks), self.head[3])
+    }
+}
+
+/// Answers every call of the stream. What is written goes out as soon as no further call waits to be read.
+pub fn run(input: &mut io::BufReader<impl Read>, output: &mut impl Write) -> io::Result<()> {
+    while let Some(call) = next_call(input)? {
+        writeln!(output, "{}", call.answer())?;
+        if input.buffer().is_empty() {
+            output.flush()?;
+        }
+    }
+    output.flush()
+}

@@ -1,0 +1,212 @@
+//! Job tables for the self-test: jobs U, house batches, trolleys, chains, random tables.
+
+use crate::rules::{Given, Job};
+
+/// A table that owns its records.
+#[derive(Clone)]
+pub struct Example {
+    pub jobs: Vec<Job>,
+    pub atoms: u64,
+    pub opening: u64,
+    pub goals: u64,
+    pub bound: u64,
+}
+
+impl Example {
+    pub fn given(&self) -> Given<'_> {
+        Given {
+            records: &self.jobs,
+            count: self.jobs.len() as u64,
+            atoms: self.atoms,
+            opening: self.opening,
+            goals: self.goals,
+            bound: self.bound,
+        }
+    }
+}
+
+pub fn word(facts: &[u64]) -> u64 {
+    facts.iter().fold(0, |word, fact| word | 1 << fact)
+}
+
+pub fn job(conditions: &[u64], additions: &[u64], deletions: &[u64], duration: u16) -> Job {
+    Job { conditions: word(conditions), additions: word(additions), deletions: word(deletions), duration }
+}
+
+/// Jobs U of the rules.
+pub fn jobs_u(goals: &[u64], bound: u64) -> Example {
+    let jobs = vec![
+        job(&[0], &[1], &[0], 4),
+        job(&[1], &[2], &[], 2),
+        job(&[1], &[3], &[], 8),
+        job(&[1], &[4], &[2], 3),
+    ];
+    Example { jobs, atoms: 5, opening: word(&[0]), goals: word(goals), bound }
+}
+
+/// Go, back, drop and pick.
+pub fn go_twice() -> Example {
+    let jobs = vec![
+        job(&[0], &[1], &[0], 1),
+        job(&[1], &[0], &[1], 1),
+        job(&[1], &[2], &[], 1),
+        job(&[0, 2], &[3], &[], 1),
+    ];
+    Example { jobs, atoms: 4, opening: word(&[0]), goals: word(&[1, 3]), bound: 12 }
+}
+
+/// Stage durations of the house groups, with true where the wash bay is held.
+const GROUPS: [&[(u16, bool)]; 12] = [
+    &[(4, false)],
+    &[(4, false), (3, true)],
+    &[(6, false), (3, true), (8, false)],
+    &[(4, false), (12, false)],
+    &[(8, false), (3, true), (16, false)],
+    &[(4, false), (3, true), (8, false), (24, false)],
+    &[(12, false)],
+    &[(6, false), (2, true), (12, false), (3, true)],
+    &[(4, false), (8, false), (16, false), (32, false)],
+    &[(8, false), (3, true), (24, false), (3, true), (48, false)],
+    &[(4, false), (2, true), (8, false), (2, true), (16, false), (32, false)],
+    &[(96, false)],
+];
+
+/// House batches: fact 0 is the bay, the done facts follow; a clearing job stands behind each stage that holds it.
+pub fn house(batches: &[usize]) -> Example {
+    let (mut jobs, mut goals, mut facts) = (Vec::new(), 0, 1u64);
+    for &group in batches {
+        let mut before: Vec<u64> = Vec::new();
+        for &(duration, bay) in GROUPS[group] {
+            let held: &[u64] = if bay { &[0] } else { &[] };
+            jobs.push(job(&[&before[..], held].concat(), &[facts], held, duration));
+            if bay {
+                jobs.push(job(&[facts], &[0], &[], 1));
+            }
+            before = vec![facts];
+            facts += 1;
+        }
+        goals |= word(&before);
+    }
+    Example { jobs, atoms: facts, opening: 1, goals, bound: 2_880 }
+}
+
+/// A trolley with one slot between two places, carrying crates one by one.
+pub fn trolley(crates: u64) -> Example {
+    let (here, there, slot) = (0, 1, 2);
+    let mut jobs = Vec::new();
+    for number in 0..crates {
+        let (waiting, on, done) = (3 + 3 * number, 4 + 3 * number, 5 + 3 * number);
+        jobs.push(job(&[here, slot, waiting], &[on], &[slot, waiting], 2));
+        jobs.push(job(&[there, on], &[done, slot], &[on], 1));
+    }
+    jobs.extend((0..crates).map(|_| job(&[here], &[there], &[here], 5)));
+    jobs.extend((1..crates).map(|_| job(&[there], &[here], &[there], 4)));
+    let waiting = (0..crates).fold(0, |facts, number| facts | word(&[3 + 3 * number]));
+    Example {
+        jobs,
+        atoms: 3 + 3 * crates,
+        opening: word(&[here, slot]) | waiting,
+        goals: waiting << 2,
+        bound: 2_880,
+    }
+}
+
+/// Jobs that each need the fact of the one before; they may delete it. The last fact is the goal.
+pub fn chain(length: u64, deleting: bool) -> Example {
+    let link = |fact: u64| {
+        let deletions: &[u64] = if deleting { &[fact] } else { &[] };
+        job(&[fact], &[fact + 1], deletions, 1 + fact as u16 % 7)
+    };
+    Example {
+        jobs: (0..length).map(link).collect(),
+        atoms: length + 1,
+        opening: 1,
+        goals: word(&[length]),
+        bound: 2_880,
+    }
+}
+
+/// Numbers that look random and are the same on every run.
+pub struct Dice(pub u64);
+
+impl Dice {
+    pub fn next(&mut self) -> u64 {
+        self.0 ^= self.0 << 13;
+        self.0 ^= self.0 >> 7;
+        self.0 ^= self.0 << 17;
+        self.0.wrapping_mul(0x2545_f491_4f6c_dd1d)
+    }
+
+    /// A number below `limit`.
+    pub fn below(&mut self, limit: u64) -> u64 {
+        ((self.next() as u128 * limit as u128) >> 64) as u64
+    }
+
+    /// Up to `most` facts below `atoms`.
+    pub fn facts(&mut self, most: u64, atoms: u64) -> u64 {
+        (0..self.below(most + 1)).fold(0, |word, _| word | 1 << self.below(atoms))
+    }
+
+    /// A table of random jobs; some are the same as an earlier one.
+    pub fn table(&mut self, most_jobs: u64, most_facts: u64, longest: u64, last_bound: u64) -> Example {
+        let atoms = 1 + self.below(most_facts);
+        let mut jobs: Vec<Job> = Vec::new();
+        for count in 0..self.below(most_jobs + 1) {
+            let next = match count > 0 && self.below(8) == 0 {
+                true => jobs[self.below(count) as usize],
+                false => self.job(atoms, longest),
+            };
+            jobs.push(next);
+        }
+        let opening = self.facts(2, atoms);
+        Example { jobs, atoms, opening, goals: self.facts(3, atoms), bound: self.below(last_bound + 1) }
+    }
+
+    /// A random table whose goals are facts that its jobs, one after the other, lead to; at least `new` of them
+    /// do not hold at the opening, if a few throws give such a table.
+    pub fn table_with_goals(
+        &mut self,
+        most_jobs: u64,
+        most_facts: u64,
+        longest: u64,
+        last_bound: u64,
+        new: u32,
+    ) -> Example {
+        let mut example = self.table(most_jobs, most_facts, longest, last_bound);
+        for _ in 0..60 {
+            example.goals = self.facts_led_to(&example);
+            if (example.goals & !example.opening).count_ones() >= new {
+                break;
+            }
+            example = self.table(most_jobs, most_facts, longest, last_bound);
+        }
+        example
+    }
+
+    /// The facts after jobs in a random order, each done if its conditions hold; some opening facts are dropped.
+    fn facts_led_to(&mut self, example: &Example) -> u64 {
+        let mut facts = example.opening;
+        let mut waiting = example.jobs.clone();
+        for _ in 0..4 * example.jobs.len() {
+            if waiting.is_empty() {
+                break;
+            }
+            let place = self.below(waiting.len() as u64) as usize;
+            if waiting[place].conditions & !facts == 0 {
+                let job = waiting.swap_remove(place);
+                facts = facts & !job.deletions | job.additions;
+            }
+        }
+        facts & (!example.opening | self.next())
+    }
+
+    fn job(&mut self, atoms: u64, longest: u64) -> Job {
+        let additions = 1 << self.below(atoms) | self.facts(1, atoms);
+        Job {
+            conditions: self.facts(2, atoms),
+            additions,
+            deletions: self.facts(2, atoms) & !additions,
+            duration: 1 + self.below(longest) as u16,
+        }
+    }
+}

@@ -1,0 +1,423 @@
+//! The rules: job tables and their checks, valid plans, supports, binding pairs, estimates, settling.
+
+/// The start of a job that is out; also an estimate that is never reached.
+pub const OUT: u16 = 65_535;
+pub const NEVER: u16 = 65_535;
+/// Support bytes that are no job numbers.
+pub const START: u8 = 254;
+pub const NO_SUPPORT: u8 = 255;
+
+/// The most jobs a table has, and the most facts a word holds.
+pub const MOST_JOBS: usize = 24;
+pub const FACTS: usize = 64;
+
+const LONGEST: u16 = 960;
+const LAST_BOUND: u64 = 2_880;
+const MOST_PAIRS: u64 = 600;
+const PAIR_TABLE: u64 = 552;
+
+#[derive(Clone, Copy, PartialEq, Eq, Debug, Default)]
+pub struct Job {
+    pub conditions: u64,
+    pub additions: u64,
+    pub deletions: u64,
+    pub duration: u16,
+}
+
+/// What is said instead of an answer.
+#[derive(Clone, Copy, PartialEq, Eq, Debug)]
+pub struct Refusal {
+    pub number: u64,
+    pub place: u64,
+}
+
+pub fn refuse<T>(number: u64, place: u64) -> Result<T, Refusal> {
+    Err(Refusal { number, place })
+}
+
+/// A job table as a caller hands it in, before any check.
+#[derive(Clone, Copy)]
+pub struct Given<'a> {
+    pub records: &'a [Job],
+    pub count: u64,
+    pub atoms: u64,
+    pub opening: u64,
+    pub goals: u64,
+    pub bound: u64,
+}
+
+/// A job table that has passed checks 3 to 8 (and 9 where there is a bound).
+#[derive(Clone, Copy)]
+pub struct Problem<'a> {
+    pub jobs: &'a [Job],
+    pub opening: u64,
+    pub goals: u64,
+    pub bound: u16,
+}
+
+/// The numbers of the bits that are set, lowest first.
+pub fn members(mut word: u64) -> impl Iterator<Item = usize> {
+    std::iter::from_fn(move || {
+        if word == 0 {
+            return None;
+        }
+        let lowest = word.trailing_zeros() as usize;
+        word &= word - 1;
+        Some(lowest)
+    })
+}
+
+/// Two different jobs interfere when one deletes a condition or an addition of the other.
+pub fn interfere(a: &Job, b: &Job) -> bool {
+    a.deletions & (b.conditions | b.additions) != 0 || b.deletions & (a.conditions | a.additions) != 0
+}
+
+// Table checks.
+
+/// Refusal 3 if fewer places are lent than needed.
+pub fn check_lent(lent: usize, needed: u64) -> Result<(), Refusal> {
+    if (lent as u64) < needed {
+        return refuse(3, 0);
+    }
+    Ok(())
+}
+
+/// Refusals 3 (records) and 4 to 8.
+pub fn check_table<'a>(given: &Given<'a>) -> Result<Problem<'a>, Refusal> {
+    check_lent(given.records.len(), given.count)?;
+    if given.atoms < 1 || given.atoms > FACTS as u64 {
+        return refuse(4, 0);
+    }
+    if given.count > MOST_JOBS as u64 {
+        return refuse(5, 0);
+    }
+    let jobs = &given.records[..given.count as usize];
+    check_durations(jobs)?;
+    check_facts(given, jobs)?;
+    check_effects(jobs)?;
+    Ok(Problem { jobs, opening: given.opening, goals: given.goals, bound: 0 })
+}
+
+/// Refusals 3 (records) and 4 to 9.
+pub fn check_bounded_table<'a>(given: &Given<'a>) -> Result<Problem<'a>, Refusal> {
+    let problem = check_table(given)?;
+    if given.bound > LAST_BOUND {
+        return refuse(9, 0);
+    }
+    Ok(Problem { bound: given.bound as u16, ..problem })
+}
+
+fn check_durations(jobs: &[Job]) -> Result<(), Refusal> {
+    match jobs.iter().position(|job| job.duration < 1 || job.duration > LONGEST) {
+        Some(job) => refuse(6, job as u64),
+        None => Ok(()),
+    }
+}
+
+/// Jobs come first, opening facts and goals stand behind the last possible job.
+fn check_facts(given: &Given, jobs: &[Job]) -> Result<(), Refusal> {
+    let strange = |word: u64| members(word).any(|fact| fact as u64 >= given.atoms);
+    for (number, job) in jobs.iter().enumerate() {
+        if strange(job.conditions | job.additions | job.deletions) {
+            return refuse(7, number as u64);
+        }
+    }
+    if strange(given.opening | given.goals) {
+        return refuse(7, MOST_JOBS as u64);
+    }
+    Ok(())
+}
+
+fn check_effects(jobs: &[Job]) -> Result<(), Refusal> {
+    match jobs.iter().position(|job| job.additions & job.deletions != 0) {
+        Some(job) => refuse(8, job as u64),
+        None => Ok(()),
+    }
+}
+
+// Valid plans.
+
+pub fn is_in(start: u16) -> bool {
+    start != OUT
+}
+
+pub fn finish(job: &Job, start: u16) -> u32 {
+    start as u32 + job.duration as u32
+}
+
+/// The jobs that are in, by number.
+fn jobs_in<'a>(starts: &'a [u16]) -> impl Iterator<Item = usize> + 'a {
+    (0..starts.len()).filter(move |&job| is_in(starts[job]))
+}
+
+fn overlap(jobs: &[Job], starts: &[u16], a: usize, b: usize) -> bool {
+    let before = |x: usize, y: usize| finish(&jobs[x], starts[x]) <= starts[y] as u32;
+    !before(a, b) && !before(b, a)
+}
+
+/// The opening facts after all finishes up to `time`, in order of time.
+pub fn facts_at(problem: &Problem, starts: &[u16], time: u32) -> u64 {
+    let mut finishes: Vec<(u32, usize)> = jobs_in(starts)
+        .map(|job| (finish(&problem.jobs[job], starts[job]), job))
+        .filter(|&(at, _)| at <= time)
+        .collect();
+    finishes.sort();
+    finishes.iter().fold(problem.opening, |facts, &(_, job)| {
+        facts & !problem.jobs[job].deletions | problem.jobs[job].additions
+    })
+}
+
+/// Refusals 11 to 14 of a plan with one start a job.
+pub fn check_plan(problem: &Problem, starts: &[u16]) -> Result<(), Refusal> {
+    check_ends(problem, starts)?;
+    check_overlaps(problem, starts)?;
+    check_conditions(problem, starts)?;
+    check_goals(problem, starts)
+}
+
+fn check_ends(problem: &Problem, starts: &[u16]) -> Result<(), Refusal> {
+    let late = |&job: &usize| finish(&problem.jobs[job], starts[job]) > problem.bound as u32;
+    match jobs_in(starts).find(late) {
+        Some(job) => refuse(11, job as u64),
+        None => Ok(()),
+    }
+}
+
+fn check_overlaps(problem: &Problem, starts: &[u16]) -> Result<(), Refusal> {
+    let jobs = problem.jobs;
+    for a in jobs_in(starts) {
+        for b in jobs_in(starts).filter(|&b| b > a) {
+            if interfere(&jobs[a], &jobs[b]) && overlap(jobs, starts, a, b) {
+                return refuse(12, a as u64);
+            }
+        }
+    }
+    Ok(())
+}
+
+fn check_conditions(problem: &Problem, starts: &[u16]) -> Result<(), Refusal> {
+    let lacking =
+        |&job: &usize| problem.jobs[job].conditions & !facts_at(problem, starts, starts[job] as u32) != 0;
+    match jobs_in(starts).find(lacking) {
+        Some(job) => refuse(13, job as u64),
+        None => Ok(()),
+    }
+}
+
+fn check_goals(problem: &Problem, starts: &[u16]) -> Result<(), Refusal> {
+    let missing = problem.goals & !facts_at(problem, starts, problem.bound as u32);
+    match members(missing).next() {
+        Some(fact) => refuse(14, fact as u64),
+        None => Ok(()),
+    }
+}
+
+/// An offered plan is looked at after 3 to 9, with the starts lent by the caller.
+pub fn check_offered<'a>(given: &Given<'a>, starts: &'a [u16]) -> Result<(Problem<'a>, &'a [u16]), Refusal> {
+    check_lent(starts.len(), given.count)?;
+    let problem = check_bounded_table(given)?;
+    let starts = &starts[..problem.jobs.len()];
+    check_plan(&problem, starts)?;
+    Ok((problem, starts))
+}
+
+// Supports.
+
+/// What has conditions: a job in the plan, or End at the bound with no length.
+struct Needer {
+    job: Option<usize>,
+    start: u32,
+    finish: u32,
+}
+
+fn needer_of(problem: &Problem, starts: &[u16], job: usize) -> Needer {
+    Needer { job: Some(job), start: starts[job] as u32, finish: finish(&problem.jobs[job], starts[job]) }
+}
+
+fn end_of(problem: &Problem) -> Needer {
+    Needer { job: None, start: problem.bound as u32, finish: problem.bound as u32 }
+}
+
+/// No deleter of the fact, other than the needer, comes between the support's start and the needer's finish.
+fn unbroken(problem: &Problem, starts: &[u16], fact: usize, from: u32, needer: &Needer) -> bool {
+    jobs_in(starts)
+        .filter(|&job| problem.jobs[job].deletions >> fact & 1 == 1 && Some(job) != needer.job)
+        .all(|job| finish(&problem.jobs[job], starts[job]) <= from || starts[job] as u32 >= needer.finish)
+}
+
+/// Start if it fits, else the lowest job that fits.
+fn named_support(problem: &Problem, starts: &[u16], fact: usize, needer: &Needer) -> u8 {
+    if problem.opening >> fact & 1 == 1 && unbroken(problem, starts, fact, 0, needer) {
+        return START;
+    }
+    jobs_in(starts)
+        .filter(|&job| problem.jobs[job].additions >> fact & 1 == 1)
+        .filter(|&job| finish(&problem.jobs[job], starts[job]) <= needer.start)
+        .find(|&job| unbroken(problem, starts, fact, starts[job] as u32, needer))
+        .map_or(NO_SUPPORT, |job| job as u8)
+}
+
+/// 64 bytes, one a fact.
+fn support_row(problem: &Problem, starts: &[u16], conditions: u64, needer: &Needer) -> [u8; FACTS] {
+    let mut row = [NO_SUPPORT; FACTS];
+    for fact in members(conditions) {
+        row[fact] = named_support(problem, starts, fact, needer);
+    }
+    row
+}
+
+/// The row of every job, then End's.
+fn support_rows(problem: &Problem, starts: &[u16]) -> Vec<[u8; FACTS]> {
+    let mut rows: Vec<[u8; FACTS]> = (0..problem.jobs.len())
+        .map(|job| match is_in(starts[job]) {
+            true => {
+                let needer = needer_of(problem, starts, job);
+                support_row(problem, starts, problem.jobs[job].conditions, &needer)
+            }
+            false => [NO_SUPPORT; FACTS],
+        })
+        .collect();
+    rows.push(support_row(problem, starts, problem.goals, &end_of(problem)));
+    rows
+}
+
+/// Fills 64 bytes a job and 64 for End.
+pub fn supports(given: &Given, starts: &[u16], table: &mut [u8]) -> Result<(), Refusal> {
+    check_lent(table.len(), given.count.saturating_add(1).saturating_mul(FACTS as u64))?;
+    let (problem, starts) = check_offered(given, starts)?;
+    for (place, row) in table.chunks_exact_mut(FACTS).zip(support_rows(&problem, starts)) {
+        place.copy_from_slice(&row);
+    }
+    Ok(())
+}
+
+// Binding pairs.
+
+/// The pairs of a valid plan, by first then second.
+pub fn pairs_of(problem: &Problem, starts: &[u16]) -> Vec<(u8, u8)> {
+    let rows = support_rows(problem, starts);
+    let jobs = problem.jobs;
+    let mut pairs = Vec::new();
+    for a in jobs_in(starts) {
+        for b in jobs_in(starts).filter(|&b| b != a) {
+            let before = finish(&jobs[a], starts[a]) <= starts[b] as u32;
+            if before && (interfere(&jobs[a], &jobs[b]) || rows[b].contains(&(a as u8))) {
+                pairs.push((a as u8, b as u8));
+            }
+        }
+    }
+    pairs
+}
+
+/// Fills two bytes a pair and gives the count.
+pub fn binding_pairs(given: &Given, starts: &[u16], table: &mut [u8]) -> Result<u64, Refusal> {
+    check_lent(table.len(), PAIR_TABLE)?;
+    let (problem, starts) = check_offered(given, starts)?;
+    let pairs = pairs_of(&problem, starts);
+    for (place, &(first, second)) in table.chunks_exact_mut(2).zip(&pairs) {
+        place.copy_from_slice(&[first, second]);
+    }
+    Ok(pairs.len() as u64)
+}
+
+// Estimates.
+
+/// What a fact costs while the jobs have these estimates.
+pub fn fact_cost(problem: &Problem, estimates: &[u16], fact: usize) -> u16 {
+    if problem.opening >> fact & 1 == 1 {
+        return 0;
+    }
+    (0..problem.jobs.len())
+        .filter(|&job| problem.jobs[job].additions >> fact & 1 == 1 && estimates[job] != NEVER)
+        .map(|job| estimates[job] + problem.jobs[job].duration)
+        .min()
+        .unwrap_or(NEVER)
+}
+
+/// The one solution of the rules, reached from "never" by falling steps.
+pub fn job_estimates(problem: &Problem) -> Vec<u16> {
+    let mut estimates = vec![NEVER; problem.jobs.len()];
+    loop {
+        let costs: Vec<u16> = (0..FACTS).map(|fact| fact_cost(problem, &estimates, fact)).collect();
+        let better: Vec<u16> = problem
+            .jobs
+            .iter()
+            .map(|job| members(job.conditions).map(|fact| costs[fact]).max().unwrap_or(0))
+            .collect();
+        if better == estimates {
+            return estimates;
+        }
+        estimates = better;
+    }
+}
+
+/// Fills one estimate a job; there is no bound here, so no refusal 9.
+pub fn estimates(given: &Given, table: &mut [u16]) -> Result<(), Refusal> {
+    check_lent(table.len(), given.count)?;
+    let problem = check_table(given)?;
+    table[..problem.jobs.len()].copy_from_slice(&job_estimates(&problem));
+    Ok(())
+}
+
+// Settling.
+
+/// Refusal 15: the set, then the number of pairs, then the pairs.
+fn check_asked(jobs: usize, set: u64, pair_count: u64, pairs: &[u8]) -> Result<(), Refusal> {
+    if members(set).any(|job| job >= jobs) {
+        return refuse(15, 601);
+    }
+    if pair_count > MOST_PAIRS {
+        return refuse(15, 600);
+    }
+    let outside = |job: u8| job as usize >= FACTS || set >> job & 1 == 0;
+    match pairs.chunks_exact(2).position(|pair| outside(pair[0]) || outside(pair[1])) {
+        Some(pair) => refuse(15, pair as u64),
+        None => Ok(()),
+    }
+}
+
+/// The least starts: from 0, a second job is moved behind its first until nothing moves or a job ends too late.
+fn least_starts(problem: &Problem, set: u64, pairs: &[u8]) -> Option<Vec<u16>> {
+    let jobs = problem.jobs;
+    let mut starts: Vec<u16> = (0..jobs.len()).map(|job| if set >> job & 1 == 1 { 0 } else { OUT }).collect();
+    loop {
+        if check_ends(problem, &starts).is_err() {
+            return None;
+        }
+        let mut moved = false;
+        for pair in pairs.chunks_exact(2) {
+            let (first, second) = (pair[0] as usize, pair[1] as usize);
+            let earliest = finish(&jobs[first], starts[first]);
+            if earliest > problem.bound as u32 {
+                return None;
+            }
+            if (starts[second] as u32) < earliest {
+                starts[second] = earliest as u16;
+                moved = true;
+            }
+        }
+        if !moved {
+            return Some(starts);
+        }
+    }
+}
+
+/// Fills the least start of every job in the set, out for the others.
+pub fn settle(
+    given: &Given,
+    set: u64,
+    pair_count: u64,
+    pairs: &[u8],
+    table: &mut [u16],
+) -> Result<(), Refusal> {
+    check_lent(table.len(), given.count)?;
+    check_lent(pairs.len(), pair_count.saturating_mul(2))?;
+    let problem = check_bounded_table(given)?;
+    let pairs = &pairs[..2 * pair_count as usize];
+    check_asked(problem.jobs.len(), set, pair_count, pairs)?;
+    match least_starts(&problem, set, pairs) {
+        Some(starts) => table[..starts.len()].copy_from_slice(&starts),
+        None => return refuse(16, 0),
+    }
+    Ok(())
+}

@@ -1,0 +1,721 @@
+//! The self-test.
+
+use crate::brute;
+use crate::calls;
+use crate::examples::{chain, go_twice, house, job, jobs_u, trolley, word, Dice, Example};
+use crate::files::{job_bytes, read_file, write_file, Saved};
+use crate::plan::{least_bound, plan_within};
+use crate::readings::{opening_facts, tenths, Marks, Reading};
+use crate::rules::{
+    binding_pairs, check_bounded_table, check_offered, check_plan, estimates, job_estimates, pairs_of,
+    settle, supports, Given, Job, Refusal, NO_SUPPORT, OUT, START,
+};
+use crate::{bench, rules};
+use std::process::ExitCode;
+
+/// Counts what passed and says what failed.
+#[derive(Default)]
+struct Tally {
+    passed: u64,
+    failed: u64,
+}
+
+impl Tally {
+    fn check(&mut self, what: &str, holds: bool) {
+        match holds {
+            true => self.passed += 1,
+            false => {
+                self.failed += 1;
+                println!("failed: {what}");
+            }
+        }
+    }
+
+    fn same<T: PartialEq + std::fmt::Debug>(&mut self, what: &str, found: T, expected: T) {
+        let holds = found == expected;
+        self.check(&format!("{what}: {found:?}, expected {expected:?}"), holds);
+    }
+}
+
+pub fn run() -> ExitCode {
+    let mut tally = Tally::default();
+    test_cases_p(&mut tally);
+    test_against_start_vectors(&mut tally);
+    test_against_orders(&mut tally);
+    test_known_tables_against_orders(&mut tally);
+    test_larger_tables(&mut tally);
+    test_known_least_bounds(&mut tally);
+    test_offered_plans(&mut tally);
+    test_supports_and_pairs(&mut tally);
+    test_estimates(&mut tally);
+    test_settling(&mut tally);
+    test_table_checks(&mut tally);
+    test_lent_tables(&mut tally);
+    test_files(&mut tally);
+    test_tenths(&mut tally);
+    test_marks(&mut tally);
+    test_bench(&mut tally);
+    test_calls(&mut tally);
+    println!("{} passed, {} failed", tally.passed, tally.failed);
+    ExitCode::from((tally.failed > 0) as u8)
+}
+
+fn refused<T>(number: u64, place: u64) -> Result<T, Refusal> {
+    rules::refuse(number, place)
+}
+
+fn plan_of(example: &Example) -> Result<Vec<u16>, Refusal> {
+    let mut starts = vec![7; example.jobs.len()];
+    plan_within(&example.given(), &mut starts).map(|_| starts)
+}
+
+fn least_of(example: &Example) -> Result<(u16, Vec<u16>), Refusal> {
+    let mut starts = vec![7; example.jobs.len()];
+    let least = least_bound(&example.given(), &mut starts)?;
+    Ok((least, starts))
+}
+
+fn offer(example: &Example, starts: &[u16]) -> Result<(), Refusal> {
+    check_offered(&example.given(), starts).map(|_| ())
+}
+
+fn test_cases_p(tally: &mut Tally) {
+    tally.same("P1", plan_of(&jobs_u(&[2, 3], 12)), Ok(vec![0, 4, 4, OUT]));
+    tally.same("P2", plan_of(&jobs_u(&[2, 3], 11)), refused(10, 0));
+    let all = jobs_u(&[2, 3, 4], 2_880);
+    tally.same("P3", least_of(&all), Ok((12, vec![0, 7, 4, 4])));
+    let offered = jobs_u(&[2, 3, 4], 12);
+    tally.same("P3 is valid", offer(&offered, &[0, 7, 4, 4]), Ok(()));
+    tally.same("P4", offer(&offered, &[0, 6, 4, 4]), refused(12, 1));
+    tally.same("P5", plan_of(&jobs_u(&[0], 0)), Ok(vec![OUT; 4]));
+    tally.same("P6", plan_of(&jobs_u(&[0, 1], 2_880)), refused(10, 0));
+    let mut none = Example { jobs: vec![], atoms: 2, opening: 1, goals: 0, bound: 0 };
+    tally.same("P7", plan_of(&none), Ok(vec![]));
+    none.goals = word(&[1]);
+    tally.same("P7 with a goal", plan_of(&none), refused(10, 0));
+    tally.same("P8", plan_of(&go_twice()), refused(10, 0));
+    tally.same("P9 above", tenths(24.000000000000004f64.to_bits()), 240);
+    tally.same("P9 below", tenths(23.999999999999996f64.to_bits()), 239);
+    tally.same("P10 negative zero", tenths((-0.0f64).to_bits()), 0);
+    tally.same("P10 -0.05", tenths((-0.05f64).to_bits()), -1);
+    tally.same("P10 nearest zero", tenths(1 << 63 | 1), -1);
+    let long = |duration, bound| Example {
+        jobs: vec![job(&[], &[0], &[], duration)],
+        atoms: 1,
+        opening: 0,
+        goals: 1,
+        bound,
+    };
+    tally.same("P11 960", plan_of(&long(960, 2_880)), Ok(vec![0]));
+    tally.same("P11 961", plan_of(&long(961, 2_880)), refused(6, 0));
+    tally.same("P11 2881", plan_of(&long(960, 2_881)), refused(9, 0));
+}
+
+/// The first plan and the least bound of many small tables, against every start vector in turn.
+fn test_against_start_vectors(tally: &mut Tally) {
+    let mut dice = Dice(0x1234_5678_9abc_def1);
+    for (tables, jobs, facts, longest, bound) in
+        [(6_000, 4, 5, 4, 10), (6_000, 4, 3, 3, 10), (800, 5, 6, 3, 7), (400, 6, 6, 2, 5)]
+    {
+        for number in 0..tables {
+            let example = match number % 2 {
+                0 => dice.table(jobs, facts, longest, bound),
+                _ => dice.table_with_goals(jobs, facts, longest, bound, 1 + number % 3),
+            };
+            let problem = check_bounded_table(&example.given()).expect("random tables pass the checks");
+            let what = format!("random table {number} of up to {jobs} jobs");
+            tally.same(&what, plan_of(&example).ok(), brute::first_plan(&problem));
+            tally.same(&what, least_of(&example).ok(), brute::least_bound(&problem));
+        }
+    }
+}
+
+/// The first plans of larger tables, also at the least bound and one below it, against every order of jobs.
+fn test_against_orders(tally: &mut Tally) {
+    let mut dice = Dice(0x2468_ace0_1357_9bdf);
+    for (tables, jobs, facts, longest, bound) in
+        [(6_000, 6, 6, 6, 40), (6_000, 5, 9, 6, 30), (800, 7, 7, 6, 40)]
+    {
+        for number in 0..tables {
+            let example = dice.table_with_goals(jobs, facts, longest, bound, 2 + number % 4);
+            let what = format!("random table {number} of up to {jobs} jobs, by orders");
+            check_by_orders(tally, &what, &example);
+            if let Ok((least, _)) = least_of(&example) {
+                check_by_orders(tally, &what, &Example { bound: least as u64, ..example.clone() });
+                check_by_orders(tally, &what, &Example { bound: least.saturating_sub(1) as u64, ..example });
+            }
+        }
+    }
+}
+
+/// The same for house batches and a trolley.
+fn test_known_tables_against_orders(tally: &mut Tally) {
+    let pairs = [[1, 1], [1, 2], [2, 1], [2, 2], [4, 1], [1, 4], [5, 1], [0, 7], [7, 0], [3, 7], [2, 4]];
+    let examples = pairs.iter().map(|pair| house(pair)).chain([trolley(1), trolley(2)]);
+    for example in examples {
+        let least = least_of(&example).map_or(0, |(least, _)| least as u64);
+        for bound in [least.saturating_sub(1), least, least + 1, least + 6] {
+            check_by_orders(tally, "known table, by orders", &Example { bound, ..example.clone() });
+        }
+    }
+}
+
+fn check_by_orders(tally: &mut Tally, what: &str, example: &Example) {
+    let problem = check_bounded_table(&example.given()).expect("random tables pass the checks");
+    tally.same(what, plan_of(example).ok(), brute::first_plan_by_orders(&problem));
+}
+
+/// Where brute force is too slow: the plan is valid, no smaller bound has one, and no job can come earlier alone.
+fn test_larger_tables(tally: &mut Tally) {
+    let mut dice = Dice(0x0fed_cba9_8765_4321);
+    for number in 0..3_000 {
+        let example = dice.table_with_goals(9, 9, 6, 60, 2 + number % 5);
+        let what = format!("table {number} of up to 9 jobs");
+        match least_of(&example) {
+            Ok((least, starts)) => check_least_plan(tally, &what, &example, least, &starts),
+            Err(refusal) => tally.same(&what, Err(refusal), plan_of(&example)),
+        }
+    }
+}
+
+fn check_least_plan(tally: &mut Tally, what: &str, example: &Example, least: u16, starts: &[u16]) {
+    let at_least = Example { bound: least as u64, ..example.clone() };
+    tally.same(what, offer(&at_least, starts), Ok(()));
+    tally.same(what, plan_of(&at_least), Ok(starts.to_vec()));
+    if least > 0 {
+        let below = Example { bound: least as u64 - 1, ..example.clone() };
+        tally.same(what, plan_of(&below), refused(10, 0));
+    }
+    for job in 0..starts.len() {
+        tally.check(what, !comes_earlier_alone(&at_least, starts, job));
+    }
+}
+
+/// Whether the plan stays valid with one job out, or at an earlier start.
+fn comes_earlier_alone(example: &Example, starts: &[u16], job: usize) -> bool {
+    if starts[job] == OUT {
+        return false;
+    }
+    let mut other = starts.to_vec();
+    std::iter::once(OUT).chain(0..starts[job]).any(|start| {
+        other[job] = start;
+        offer(example, &other).is_ok()
+    })
+}
+
+fn test_known_least_bounds(tally: &mut Tally) {
+    let least = |example: &Example| least_of(example).map(|(least, _)| least);
+    tally.same("trolley of 1", least(&trolley(1)), Ok(8));
+    tally.same("trolley of 2", least(&trolley(2)), Ok(20));
+    tally.same("trolley of 3", least(&trolley(3)), Ok(32));
+    for deleting in [false, true] {
+        let total: u16 = chain(24, deleting).jobs.iter().map(|job| job.duration).sum();
+        tally.same("chain of 24", least(&chain(24, deleting)), Ok(total));
+    }
+    for group in 0..12 {
+        let example = house(&[group]);
+        let clearing = |job: &&Job| job.additions != 1;
+        let stages: u16 = example.jobs.iter().filter(clearing).map(|job| job.duration).sum();
+        tally.same("one batch", least(&example), Ok(stages));
+    }
+    tally.same("two batches of group 1", least(&house(&[1, 1])), Ok(4 + 3 + 1 + 3));
+    tally.same("three batches of group 1", least(&house(&[1, 1, 1])), Ok(4 + 3 + 1 + 3 + 1 + 3));
+    tally.same("four long batches", least(&house(&[11, 11, 11, 11])), Ok(96));
+    test_ways_to_one_standing(tally);
+}
+
+/// Batches in which one standing is reached at several times and the later one fails, so memory must look at the time.
+fn test_ways_to_one_standing(tally: &mut Tally) {
+    let loose = vec![0, 4, 7, 0, 8, 10, 10, 22, 25, 0, 11, 13, 13, 26, OUT];
+    tally.same("room to spare", plan_of(&Example { bound: 29, ..house(&[1, 7, 7]) }), Ok(loose));
+    let tight = vec![0, 12, 15, 0, 6, 8, 8, 20, 23, 0, 9, 11, 11, 24, OUT];
+    tally.same("short batch first", least_of(&house(&[1, 7, 7])), Ok((27, tight)));
+    let tight = vec![0, 6, 8, 8, 20, 23, 0, 12, 15, 0, 9, 11, 11, 24, OUT];
+    tally.same("short batch between", least_of(&house(&[7, 1, 7])), Ok((27, tight)));
+    let tight = vec![0, 6, 8, 8, 20, 23, 0, 9, 11, 11, 24, OUT, 0, 12, 15];
+    tally.same("short batch last", least_of(&house(&[7, 7, 1])), Ok((27, tight)));
+}
+
+fn test_offered_plans(tally: &mut Tally) {
+    let all = jobs_u(&[2, 3, 4], 12);
+    tally.same("late", offer(&all, &[0, 11, 9, 4]), refused(11, 1));
+    tally.same("far too late", offer(&all, &[65_534, 4, 4, 4]), refused(11, 0));
+    tally.same("late before overlap", offer(&all, &[0, 6, 5, 4]), refused(11, 2));
+    tally.same("overlap before condition", offer(&all, &[OUT, 6, 4, 4]), refused(12, 1));
+    tally.same("condition", offer(&all, &[0, 3, 4, 5]), refused(13, 1));
+    tally.same("condition with nothing done", offer(&all, &[OUT, 7, 4, 4]), refused(13, 1));
+    tally.same("goals", offer(&all, &[0, 4, 4, 6]), refused(14, 2));
+    tally.same("two goals", offer(&all, &[0, OUT, OUT, 4]), refused(14, 2));
+    let clash = Example {
+        jobs: vec![job(&[], &[0], &[1], 2), job(&[], &[1], &[], 2), job(&[0], &[2], &[0], 1)],
+        atoms: 3,
+        opening: word(&[0]),
+        goals: 0,
+        bound: 9,
+    };
+    tally.same("first pair by lower number", offer(&clash, &[0, 1, 1]), refused(12, 0));
+    tally.same("pair of higher numbers", offer(&clash, &[0, 2, 1]), refused(12, 0));
+    tally.same("own condition deleted", offer(&clash, &[1, 3, 0]), Ok(()));
+}
+
+fn test_supports_and_pairs(tally: &mut Tally) {
+    let all = jobs_u(&[2, 3, 4], 12);
+    let starts = [0, 7, 4, 4];
+    let mut table = vec![9; 64 * 5 + 3];
+    tally.same("supports", supports(&all.given(), &starts, &mut table), Ok(()));
+    let named: Vec<(usize, u8)> =
+        table.iter().copied().enumerate().filter(|&(_, by)| by != NO_SUPPORT).collect();
+    let expected = vec![
+        (0, START),
+        (64 + 1, 0),
+        (128 + 1, 0),
+        (192 + 1, 0),
+        (256 + 2, 1),
+        (256 + 3, 2),
+        (256 + 4, 3),
+        (320, 9),
+        (321, 9),
+        (322, 9),
+    ];
+    tally.same("named supports", named, expected);
+    let mut pairs = vec![9; 560];
+    tally.same("pairs", binding_pairs(&all.given(), &starts, &mut pairs), Ok(4));
+    tally.same("pairs listed", pairs[..10].to_vec(), vec![0, 1, 0, 2, 0, 3, 3, 1, 9, 9]);
+    test_deleter_between(tally);
+    let mut dice = Dice(77);
+    for number in 0..2_000 {
+        check_random_pairs(tally, &dice.table_with_goals(7, 7, 4, 30, 2 + number % 4));
+    }
+}
+
+/// An early adder is no support when a deleter comes in between, and Start is none either.
+fn test_deleter_between(tally: &mut Tally) {
+    let example = Example {
+        jobs: vec![
+            job(&[], &[0], &[], 1),
+            job(&[], &[1], &[0], 1),
+            job(&[], &[0], &[], 1),
+            job(&[0], &[2], &[], 1),
+        ],
+        atoms: 3,
+        opening: 1,
+        goals: word(&[0, 2]),
+        bound: 4,
+    };
+    let mut table = vec![0; 320];
+    tally.same("deleter between", supports(&example.given(), &[0, 1, 2, 3], &mut table), Ok(()));
+    tally.same("support of the job", table[192], 2);
+    tally.same("support of End", table[256], 2);
+}
+
+/// Every condition has a support, and settling the binding pairs keeps the plan valid and makes nothing later.
+fn check_random_pairs(tally: &mut Tally, example: &Example) {
+    let Ok(starts) = plan_of(example) else { return };
+    let problem = check_bounded_table(&example.given()).expect("random tables pass the checks");
+    let mut table = vec![0; 64 * (starts.len() + 1)];
+    let _ = supports(&example.given(), &starts, &mut table);
+    for (job, &start) in starts.iter().enumerate().filter(|&(_, &start)| start != OUT) {
+        let row = &table[64 * job..];
+        tally.check(
+            "a support",
+            rules::members(problem.jobs[job].conditions).all(|fact| row[fact] != NO_SUPPORT),
+        );
+        tally.check("not before the estimate", job_estimates(&problem)[job] <= start);
+    }
+    let pairs: Vec<u8> = pairs_of(&problem, &starts).into_iter().flat_map(|(a, b)| [a, b]).collect();
+    let set = (0..starts.len()).filter(|&job| starts[job] != OUT).fold(0, |set, job| set | 1 << job);
+    let mut settled = vec![0; starts.len()];
+    let result = settle(&example.given(), set, pairs.len() as u64 / 2, &pairs, &mut settled);
+    tally.same("settled", result, Ok(()));
+    let no_later = settled.iter().zip(&starts).all(|(least, start)| least <= start);
+    tally.check("settled plan", check_plan(&problem, &settled).is_ok() && no_later);
+}
+
+fn test_estimates(tally: &mut Tally) {
+    let estimated = |example: &Example| {
+        let mut table = vec![5; example.jobs.len() + 1];
+        estimates(&example.given(), &mut table).map(|_| table)
+    };
+    tally.same("estimates", estimated(&jobs_u(&[], 9_999)), Ok(vec![0, 4, 4, 4, 5]));
+    let example = Example {
+        jobs: vec![
+            job(&[1], &[2], &[], 960),
+            job(&[2], &[1], &[], 1),
+            job(&[0, 3], &[1], &[], 7),
+            job(&[], &[3], &[], 9),
+        ],
+        atoms: 4,
+        opening: 1,
+        goals: 0,
+        bound: 0,
+    };
+    tally.same("estimates in a ring", estimated(&example), Ok(vec![16, 976, 9, 0, 5]));
+    let ring = Example { opening: 0, ..example };
+    tally.same("never", estimated(&ring), Ok(vec![OUT, OUT, OUT, 0, 5]));
+}
+
+fn test_settling(tally: &mut Tally) {
+    let settled = |set, pairs: &[u8], bound| {
+        let example = jobs_u(&[], bound);
+        let mut table = vec![8; 5];
+        settle(&example.given(), set, pairs.len() as u64 / 2, pairs, &mut table).map(|_| table)
+    };
+    tally.same("settled", settled(0b1011, &[0, 1, 1, 3], 9), Ok(vec![0, 4, OUT, 6, 8]));
+    tally.same("no room", settled(0b1011, &[0, 1, 1, 3], 8), refused(16, 0));
+    tally.same("nothing asked", settled(0, &[], 0), Ok(vec![OUT, OUT, OUT, OUT, 8]));
+    tally.same("itself", settled(0b1011, &[1, 1], 2_880), refused(16, 0));
+    tally.same("ring", settled(0b1011, &[1, 3, 3, 1], 2_880), refused(16, 0));
+    tally.same("itself outside", settled(0b1011, &[0, 1, 2, 2], 2_880), refused(15, 1));
+    tally.same("no such job in a pair", settled(0b1011, &[0, 200], 2_880), refused(15, 0));
+    tally.same("no such job in the set", settled(1 << 63, &[0; 1_202], 2_880), refused(15, 601));
+    tally.same("601 pairs", settled(1, &[9; 1_202], 2_880), refused(15, 600));
+    tally.same("600 pairs", settled(0b11, &[0, 1].repeat(600), 2_880), Ok(vec![0, 4, OUT, OUT, 8]));
+    tally.same("bound", settled(1 << 63, &[], 2_881), refused(9, 0));
+    let short = settle(&jobs_u(&[], 9).given(), 1, 2, &[0, 1, 0], &mut [0; 4]);
+    tally.same("short pairs", short, refused(3, 0));
+    let endless = settle(&jobs_u(&[], 9).given(), 1, u64::MAX, &[0, 1, 0], &mut [0; 4]);
+    tally.same("more pairs than bytes", endless, refused(3, 0));
+}
+
+/// Refusals 3 to 9 in the order of the numbers, each with its place.
+fn test_table_checks(tally: &mut Tally) {
+    let mut example = jobs_u(&[2], 2_881);
+    tally.same("9", plan_of(&example), refused(9, 0));
+    example.jobs[3].deletions |= word(&[4]);
+    example.jobs[2].deletions |= word(&[3]);
+    tally.same("8", plan_of(&example), refused(8, 2));
+    example.goals |= word(&[5]);
+    tally.same("7 in the goals", plan_of(&example), refused(7, 24));
+    example.jobs[3].conditions |= word(&[63]);
+    tally.same("7", plan_of(&example), refused(7, 3));
+    example.jobs[1].duration = 0;
+    tally.same("6", plan_of(&example), refused(6, 1));
+    example.jobs.resize(25, Job::default());
+    tally.same("5", plan_of(&example), refused(5, 0));
+    example.atoms = 65;
+    tally.same("4", plan_of(&example), refused(4, 0));
+    example.atoms = 0;
+    tally.same("4 with none", plan_of(&example), refused(4, 0));
+    let short = Given { count: 26, ..example.given() };
+    tally.same("3", plan_within(&short, &mut [0; 30]), refused(3, 0));
+    let endless = Given { count: u64::MAX, ..example.given() };
+    tally.same("3 with any count", plan_within(&endless, &mut [0; 30]), refused(3, 0));
+}
+
+fn test_lent_tables(tally: &mut Tally) {
+    let all = jobs_u(&[2, 3, 4], 12);
+    let given = all.given();
+    let starts = [0, 7, 4, 4];
+    tally.same("short starts", plan_within(&given, &mut [0; 3]), refused(3, 0));
+    tally.same("short starts at the least bound", least_bound(&given, &mut [0; 3]), refused(3, 0));
+    tally.same("short estimates", estimates(&given, &mut [0; 3]), refused(3, 0));
+    tally.same("short offered plan", check_offered(&given, &starts[..3]).map(|_| ()), refused(3, 0));
+    tally.same("short supports", supports(&given, &starts, &mut [0; 319]), refused(3, 0));
+    tally.same("short pairs", binding_pairs(&given, &starts, &mut [0; 551]), refused(3, 0));
+    let mut table = [6; 7];
+    tally.same("long starts", least_bound(&given, &mut table), Ok(12));
+    tally.same("what is not filled", table, [0, 7, 4, 4, 6, 6, 6]);
+    let tight = Given { bound: 11, ..given };
+    let mut table = [6; 7];
+    tally.same("no plan", least_bound(&tight, &mut table), refused(10, 0));
+    tally.same("nothing changed", table, [6; 7]);
+}
+
+fn saved_of(example: &Example) -> Saved {
+    Saved {
+        opening: example.opening,
+        goals: example.goals,
+        bound: example.bound as u16,
+        jobs: example.jobs.len() as u8,
+        atoms: example.atoms as u8,
+    }
+}
+
+/// A file of one save.
+fn file_of(example: &Example) -> Vec<u8> {
+    let mut file = vec![0; 32 * example.jobs.len() + 24];
+    write_file(&example.given(), &mut file, 0).expect("the example can be saved");
+    file
+}
+
+fn test_files(tally: &mut Tally) {
+    let mut dice = Dice(4_242);
+    for _ in 0..2_000 {
+        check_round_trip(tally, &mut dice);
+    }
+    test_reader(tally);
+    test_writer(tally);
+}
+
+/// Older bytes before, a save, bytes behind in the buffer; then notes between records and trailer.
+fn check_round_trip(tally: &mut Tally, dice: &mut Dice) {
+    let example = dice.table(24, 64, 960, 2_880);
+    let used = dice.below(200) as usize;
+    let length = used + 32 * example.jobs.len() + 24;
+    let before: Vec<u8> = (0..length + dice.below(40) as usize).map(|_| dice.next() as u8).collect();
+    let mut buffer = before.clone();
+    tally.same("new length", write_file(&example.given(), &mut buffer, used as u64), Ok(length as u64));
+    tally.check("no other byte", buffer[..used] == before[..used] && buffer[length..] == before[length..]);
+    let mut lent = vec![Job::default(); example.jobs.len() + 1];
+    tally.same("read back", read_file(&buffer[..length], &mut lent), Ok(saved_of(&example)));
+    tally.check("jobs read back", lent[..example.jobs.len()] == example.jobs[..]);
+    let notes = dice.below(50) as usize;
+    let mut noted = buffer[..length - 24].to_vec();
+    noted.extend((0..notes).map(|_| dice.next() as u8));
+    noted.extend(&buffer[length - 24..length - 4]);
+    noted.extend(((32 * example.jobs.len() + notes) as u32).to_le_bytes());
+    tally.same("read with notes", read_file(&noted, &mut lent), Ok(saved_of(&example)));
+    tally.check("jobs read with notes", lent[..example.jobs.len()] == example.jobs[..]);
+}
+
+fn test_reader(tally: &mut Tally) {
+    let example = jobs_u(&[2, 3], 12);
+    let file = file_of(&example);
+    let read = |file: &[u8]| read_file(file, &mut [Job::default(); 255]);
+    let changed = |places: &[(usize, u8)]| {
+        let mut other = file.clone();
+        places.iter().for_each(|&(place, byte)| other[place] = byte);
+        read(&other)
+    };
+    let trailer = file.len() - 24;
+    tally.same("reader", read(&file), Ok(saved_of(&example)));
+    tally.same(
+        "longest file",
+        read(&[vec![1; 65_536 - file.len()], file.clone()].concat()),
+        Ok(saved_of(&example)),
+    );
+    tally.same("reader 1", read(&[vec![1; 65_537 - file.len()], file.clone()].concat()), refused(1, 0));
+    tally.same("reader 2, short", read(&file[..23]), refused(2, 0));
+    tally.same("reader 2, near", changed(&[(trailer + 20, 127)]), refused(2, 0));
+    tally.same("reader 2, far", changed(&[(trailer + 20, 129)]), refused(2, 0));
+    tally.same("reader 2, very far", changed(&[(trailer + 23, 255)]), refused(2, 0));
+    for byte in 26..32 {
+        tally.same("reader 2, six bytes", changed(&[(3 * 32 + byte, 1), (trailer + 19, 65)]), refused(2, 0));
+    }
+    tally.same("reader 3", read_file(&file, &mut [Job::default(); 3]), refused(3, 0));
+    tally.same("reader 4", changed(&[(trailer + 19, 65)]), refused(4, 0));
+    tally.same("reader 6", changed(&[(32 + 24, 0)]), refused(6, 1));
+    tally.same("reader 7", changed(&[(64, 32)]), refused(7, 2));
+    tally.same("reader 7, opening", changed(&[(trailer + 7, 128)]), refused(7, 24));
+    tally.same("reader 8", changed(&[(64 + 16, 8)]), refused(8, 2));
+    tally.same("reader 9", changed(&[(trailer + 17, 255)]), refused(9, 0));
+    tally.same("reader 5", read(&file_of_many(25, 0)), refused(5, 0));
+    tally.same("reader 2 before 5", read(&file_of_many(255, 1)), refused(2, 0));
+}
+
+/// A file of more jobs than allowed, with the last of the six bytes of its last record as given.
+fn file_of_many(count: u8, last: u8) -> Vec<u8> {
+    let mut file: Vec<u8> =
+        (0..count).flat_map(|_| [job_bytes(&job(&[], &[0], &[], 1)), vec![0; 6]].concat()).collect();
+    *file.last_mut().expect("there are records") = last;
+    file.extend([0; 16]);
+    file.extend([9, 0, count, 1]);
+    file.extend((32 * count as u32).to_le_bytes());
+    file
+}
+
+fn test_writer(tally: &mut Tally) {
+    let example = jobs_u(&[2, 3], 12);
+    let write = |given: &Given, length: usize, used: u64| {
+        let mut buffer = vec![5; length];
+        let result = write_file(given, &mut buffer, used);
+        (result, result.is_err() && buffer != vec![5; length])
+    };
+    let given = example.given();
+    tally.same("writer to the last byte", write(&given, 65_536, 65_536 - 152).0, Ok(65_536));
+    tally.same("writer 1", write(&given, 70_000, 65_536 - 151), (refused(1, 0), false));
+    tally.same("writer 1, any use", write(&given, 70_000, u64::MAX), (refused(1, 0), false));
+    tally.same(
+        "writer 1, any count",
+        write(&Given { count: u64::MAX, ..given }, 152, 0),
+        (refused(1, 0), false),
+    );
+    tally.same(
+        "writer 1, 3000 jobs",
+        write(&Given { count: 3_000, ..given }, 152, 0),
+        (refused(1, 0), false),
+    );
+    tally.same("writer 3", write(&given, 151, 0), (refused(3, 0), false));
+    tally.same("writer 3, use beyond the buffer", write(&given, 10, 20), (refused(3, 0), false));
+    tally.same("writer 3, records", write(&Given { count: 5, ..given }, 900, 0), (refused(3, 0), false));
+    tally.same("writer 4", write(&Given { atoms: 0, ..given }, 900, 0), (refused(4, 0), false));
+    tally.same("writer 9", write(&Given { bound: 2_881, ..given }, 900, 0), (refused(9, 0), false));
+    tally.same("writer, no jobs", write(&Given { count: 0, ..given }, 24, 0).0, Ok(24));
+}
+
+/// Whole numbers of any size, least word first, for the slow way to the tenths.
+type Big = Vec<u32>;
+
+fn big_shifted(value: u64, places: usize) -> Big {
+    let mut big = vec![0; places / 32];
+    let wide = (value as u128) << (places % 32);
+    big.extend((0..4).map(|word| (wide >> (32 * word)) as u32));
+    big.resize(40, 0);
+    big
+}
+
+fn big_times(big: &Big, factor: u32) -> Big {
+    let mut carry = 0u64;
+    big.iter()
+        .map(|&word| {
+            carry += word as u64 * factor as u64;
+            let low = carry as u32;
+            carry >>= 32;
+            low
+        })
+        .collect()
+}
+
+fn big_at_most(a: &Big, b: &Big) -> bool {
+    a.iter().rev().le(b.iter().rev())
+}
+
+/// Counts whole tenths over the parts of which 2^1074 make one.
+fn slow_tenths(bits: u64) -> i32 {
+    let exponent = (bits >> 52 & 0x7ff) as usize;
+    let fraction = bits & ((1 << 52) - 1);
+    let parts = match exponent {
+        0 => big_shifted(fraction, 0),
+        _ => big_shifted(fraction | 1 << 52, exponent - 1),
+    };
+    let ten = big_times(&parts, 10);
+    let one = big_shifted(1, 1_074);
+    // The number of whole ones in ten times the size, by halving.
+    let (mut low, mut high) = (0, 1_001);
+    while high - low > 1 {
+        let middle = (low + high) / 2;
+        match big_at_most(&big_times(&one, middle), &ten) {
+            true => low = middle,
+            false => high = middle,
+        }
+    }
+    match bits >> 63 {
+        0 => low as i32,
+        _ if big_times(&one, low) == ten => -(low as i32),
+        _ => -(low as i32) - 1,
+    }
+}
+
+fn test_tenths(tally: &mut Tally) {
+    for tenth in -1_000i32..=1_000 {
+        let nearest: f64 = format!("{tenth}e-1").parse().expect("a number");
+        for bits in [nearest.to_bits() - (tenth != 0) as u64, nearest.to_bits(), nearest.to_bits() + 1] {
+            if bits & !(1 << 63) <= 100f64.to_bits() {
+                tally.same("tenths near a tenth", tenths(bits), slow_tenths(bits));
+            }
+        }
+    }
+    let mut dice = Dice(31_337);
+    let common = 0.01f64.to_bits();
+    for _ in 0..5_000 {
+        let bits = dice.next() & 1 << 63 | dice.below(100f64.to_bits() + 1);
+        tally.same("tenths of any float", tenths(bits), slow_tenths(bits));
+        let near = dice.next() & 1 << 63 | (common + dice.below(100f64.to_bits() - common + 1));
+        tally.same("tenths of a common float", tenths(near), slow_tenths(near));
+    }
+    for bits in [
+        0,
+        1,
+        2,
+        (1 << 52) - 1,
+        1 << 52,
+        (1 << 52) + 1,
+        0.1f64.to_bits(),
+        0.3f64.to_bits(),
+        99.99f64.to_bits(),
+    ] {
+        for sign in [0, 1 << 63] {
+            tally.same("tenths of a special float", tenths(bits | sign), slow_tenths(bits | sign));
+        }
+    }
+}
+
+fn test_marks(tally: &mut Tally) {
+    let facts = |temperature: f64, humidity: f64, marks: &[(u8, i16, u8)]| {
+        let channels: Vec<u8> = marks.iter().map(|mark| mark.0).collect();
+        let levels: Vec<i16> = marks.iter().map(|mark| mark.1).collect();
+        let places: Vec<u8> = marks.iter().map(|mark| mark.2).collect();
+        let reading = Reading { temperature: temperature.to_bits(), humidity: humidity.to_bits() };
+        let marks = Marks { count: marks.len() as u64, channels: &channels, levels: &levels, facts: &places };
+        opening_facts(0b1010, reading, &marks)
+    };
+    tally.same("no marks", facts(20.0, 50.0, &[]), Ok(0b1010));
+    tally.same("reached", facts(24.000000000000004, 50.0, &[(0, 240, 0), (1, 501, 1)]), Ok(0b1001));
+    tally.same("all of both", facts(24.0, 50.0, &[(0, 240, 0), (1, 501, 0), (1, 500, 2)]), Ok(0b1110));
+    tally.same("missed", facts(23.999999999999996, 50.0, &[(0, 240, 3), (0, 239, 63)]), Ok(0b0010 | 1 << 63));
+    tally.same("ends of the range", facts(-100.0, 100.0, &[(0, -1_000, 0), (1, 1_000, 2)]), Ok(0b1111));
+    let above = f64::from_bits(100f64.to_bits() + 1);
+    for strange in [f64::NAN, f64::INFINITY, -f64::INFINITY, above, -above, f64::MAX] {
+        tally.same("temperature", facts(strange, strange, &[(9, 0, 0)]), refused(17, 0));
+        tally.same("humidity", facts(0.0, strange, &[(9, 0, 0)]), refused(17, 1));
+    }
+    tally.same("17 marks", facts(0.0, 0.0, &[(9, 0, 0); 17]), refused(18, 16));
+    tally.same("16 marks", facts(0.0, 0.0, &[(0, 0, 0); 16]), Ok(0b1011));
+    for bad in [(2, 0, 0), (0, 1_001, 0), (0, -1_001, 0), (0, 0, 64)] {
+        tally.same("lowest mark", facts(0.0, 0.0, &[(1, 0, 0), bad, bad]), refused(18, 1));
+    }
+    let reading = Reading { temperature: u64::MAX, humidity: 0 };
+    let short = Marks { count: 2, channels: &[0, 0], levels: &[0], facts: &[0, 0] };
+    tally.same("short marks", opening_facts(0, reading, &short), refused(3, 0));
+}
+
+fn test_bench(tally: &mut Tally) {
+    let text = "least 12\n0 4 0\n4 12 2\n4 7 3\n7 9 1\n0 before 1\n0 before 2\n0 before 3\n3 before 1\n";
+    tally.same("bench P3", bench::text(&file_of(&jobs_u(&[2, 3, 4], 12))).as_str(), text);
+    tally.same("bench P2", bench::text(&file_of(&jobs_u(&[2, 3], 11))).as_str(), "refused 10 0\n");
+    tally.same("bench P5", bench::text(&file_of(&jobs_u(&[0], 2_880))).as_str(), "least 0\n");
+    tally.same("bench of nothing", bench::text(&[]).as_str(), "refused 2 0\n");
+    tally.same("bench of 25 jobs", bench::text(&file_of_many(25, 0)).as_str(), "refused 5 0\n");
+    tally.same("bench of 255 jobs", bench::text(&file_of_many(255, 0)).as_str(), "refused 5 0\n");
+    tally.same("bench of a long file", bench::text(&[0; 65_537]).as_str(), "refused 1 0\n");
+}
+
+/// A call with jobs U, as the stream has it.
+fn call_bytes(head: [u64; 16], records: &[Job], table: &[u8]) -> Vec<u8> {
+    let mut bytes: Vec<u8> = head.iter().flat_map(|word| word.to_le_bytes()).collect();
+    bytes.extend(records.iter().flat_map(|job| [job_bytes(job), vec![7; 6]].concat()));
+    bytes.extend(table);
+    bytes
+}
+
+fn test_calls(tally: &mut Tally) {
+    let jobs = jobs_u(&[], 0).jobs;
+    let starts = [0, 0, 7, 0, 4, 0, 4, 0];
+    let head = |op, h6, h7, h9, h10, h11| [op, 4, 5, 1, 0b11100, 12, h6, h7, 4, h9, h10, h11, 0, 0, 0, 0];
+    let mut stream = Vec::new();
+    stream.extend(call_bytes(head(1, 0, 0, 8, 0, 0), &jobs, &starts));
+    stream.extend(call_bytes(head(2, 0, 0, 0, 5, 0xab), &jobs, &[]));
+    stream.extend(call_bytes(head(3, 0, 0, 0, 4, 0), &jobs, &[]));
+    stream.extend(call_bytes(head(3, 0, 0, 0, 3, 0), &jobs, &[]));
+    stream.extend(call_bytes(head(4, 0, 0, 8, 2, 1), &jobs, &starts));
+    stream.extend(call_bytes(head(6, 0, 0, 0, 4, 0), &jobs, &[]));
+    stream.extend(call_bytes(head(7, 3, 1, 2, 4, 0), &jobs, &[0, 1]));
+    stream.extend(call_bytes(head(8, 0, 0, 3, 0, 0), &jobs[..], &[1, 2, 3]));
+    let mut readings = head(10, 24f64.to_bits(), 1, 1, 1, 1);
+    readings[12] = 50f64.to_bits();
+    stream.extend(call_bytes(readings, &jobs, &[0, 240, 0, 6]));
+    let mut output = Vec::new();
+    let whole = calls::run(&mut std::io::BufReader::new(&stream[..]), &mut output).is_ok();
+    let expected = [
+        "0 0 0",
+        "0 0 0 0000070004000400abab",
+        "0 0 12 0000070004000400",
+        "3 0 65535 000000000000",
+        "3 0 0 0101",
+        "0 0 0 0000040004000400",
+        "0 0 0 00000400ffffffff",
+        &format!(
+            "2 0 0 0 0 0 0 {}",
+            jobs.iter().flat_map(job_bytes).map(|byte| format!("{byte:02x}")).collect::<String>()
+        ),
+        "0 0 65",
+    ];
+    tally.same(
+        "stream of calls",
+        String::from_utf8_lossy(&output).lines().collect::<Vec<_>>(),
+        expected.to_vec(),
+    );
+    tally.check("whole stream", whole);
+    let cut = calls::run(&mut std::io::BufReader::new(&stream[..200]), &mut Vec::new());
+    tally.check("a stream that ends within a call", cut.is_err());
+}
