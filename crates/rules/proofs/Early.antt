@@ -1,6 +1,6 @@
 -- Law 8: the estimates have exactly one solution, no valid plan starts a job before its estimate, and no sum in them is cut.
 -- Assumes nothing.
-use mathlib.Core.Path.{_≡_, refl, sym, _∙_}
+use mathlib.Core.Path.{_≡_, refl, sym, _∙_, ap, ap₂}
 use mathlib.Core.Logic.{_⊎_, inl, inr, ⊎-elim}
 use mathlib.Core.Bool.{Bool, true, false, cond}
 use Prim.Native.Nat.{ℕ, zero, suc, _+_, _-_, _≤_, _<_, min, max}
@@ -321,3 +321,41 @@ module _ (P : Problem) (ok : InOrder P) (est : ℕ → ℕ) (x : Estimates P est
 
   pub estimates-end : (i : ℕ) → i < P .count → est i < 65535 → est i + span i ≤ base + sum span (P .count)
   estimates-end i l h = chain-end (P .count) (λ j. ltb (est j) 65535) est span base (λ a m. omega (arith, ok .long a m)) tight i l (lt→ltb (est i) 65535 h)
+
+-- ── the estimates read no more of a problem than its facts below 64 ──
+
+-- P and R are one problem to the estimates
+pub record Alike (P R : Problem) : Type 0 where
+  pub count : P .count ≡ R .count
+  pub conditions : (i : ℕ) → i < P .count → P .conditions i ≡ R .conditions i
+  pub additions : (i p : ℕ) → i < P .count → p < 64 → has (P .additions i) p ≡ has (R .additions i) p
+  pub duration : (i : ℕ) → i < P .count → P .duration i ≡ R .duration i
+  pub release : (i : ℕ) → i < P .count → P .release i ≡ R .release i
+  pub gap : P .gap ≡ R .gap
+  pub opening : P .opening ≡ R .opening
+
+module _ (P R : Problem) (a : Alike P R) (est : ℕ → ℕ) where
+  cheapest-same : (p k : ℕ) → p < 64 → k ≤ P .count → cheapest P est p k ≡ cheapest R est p k
+  unfolding cheapest
+  cheapest-same p zero l m = refl
+  cheapest-same p (suc k) l m = rw (a .additions k p m l, a .duration k m, cheapest-same p k l (omega arith))
+
+  cost-same : (p : ℕ) → p < 64 → cost P est p ≡ cost R est p
+  unfolding cost
+  cost-same p l = ap₂ (λ (o c : ℕ). cond (has o p) 0 c) (a .opening) (cheapest-same p (P .count) l (omega arith) ∙ ap (λ (n : ℕ). cheapest R est p n) (a .count))
+
+  condition-same : (p : ℕ) → p < 64 → condition P est p ≡ condition R est p
+  unfolding condition
+  condition-same p l =
+      ap (λ (o : ℕ). cond (has o p) 0 (plus (cost P est p) (P .gap))) (a .opening)
+      ∙ ap₂ (λ (c g : ℕ). cond (has (R .opening) p) 0 (plus c g)) (cost-same p l) (a .gap)
+
+  dearest-same : (i k : ℕ) → i < P .count → k ≤ 64 → dearest P est i k ≡ dearest R est i k
+  unfolding dearest
+  dearest-same i zero l m = a .release i l
+  dearest-same i (suc p) l m =
+      ap (λ (w : ℕ). max (cond (has w p) (condition P est p) 0) (dearest P est i p)) (a .conditions i l)
+      ∙ ap₂ (λ (c d : ℕ). max (cond (has (R .conditions i) p) c 0) d) (condition-same p m) (dearest-same i p l (omega arith))
+
+  pub estimates-alike : Estimates R est → Estimates P est
+  estimates-alike x i l = x i (omega (arith, a .count)) ∙ sym (dearest-same i 64 l (omega arith))
