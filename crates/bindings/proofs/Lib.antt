@@ -1,0 +1,5 @@
+pub mod Bytes
+pub mod Count
+pub mod Filled
+pub mod Only
+pub mod Useless

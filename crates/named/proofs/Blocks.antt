@@ -1,0 +1,52 @@
+-- The tests of a support, as the code makes them on a table.
+-- Assumes nothing.
+use mathlib.Core.Path.{_≡_, sym, ap, _∙_}
+use mathlib.Core.Bool.{Bool, true, false, not, _&&_}
+use mathlib.Core.List.{List}
+use Prim.Native.Nat.{ℕ, _+_}
+use native.Mathlib.Nat.{add-zero}
+use lib.Dec.{eqb, leb, ltb}
+use lib.ListN.{getD}
+use Rattle.facts.specs.Facts.{has, Word}
+use Rattle.facts.specs.Least.{any}
+use Rattle.rules.specs.Plans.{starts, inPlan}
+use Rattle.rules.specs.Supports.{blocks, startFits, jobFits}
+use Rattle.tables.specs.declared.Loaded.{Loaded}
+use Rattle.tables.specs.declared.Ask.{Ask}
+use Rattle.tables.specs.Tables.{problem}
+use Rattle.verdict.specs.Offered.{chosen}
+use Rattle.named.specs.declared.Holder.{Holder}
+use Rattle.named.specs.Named.{consumer}
+use Rattle.named.proofs.Tests.{way, fit-yes, fit-no, no-fact}
+
+module _ (l : Loaded) (q : Ask) (s : List ℕ) (c : Holder) where
+  -- job d blocks the facts that it deletes
+  pub blocks-of : (p from d : ℕ) {y : Bool} → y ≡ (chosen (getD s d 0) && (ltb from (getD s d 0 + getD (l .durations) d 0) && ltb (getD s d 0) (c .till)))
+      → (has (getD (l .deletions) d 0) p && (y && not (eqb d (c .me)))) ≡ blocks (problem l q) (starts s) p (consumer c) 0 from d
+  unfolding blocks inPlan
+  blocks-of p from d e =
+      ap (λ (x : Bool). has (getD (l .deletions) d 0) p && (x && not (eqb d (c .me)))) e
+      ∙ simp add-zero
+      (way (chosen (getD s d 0)) (has (getD (l .deletions) d 0) p) (not (eqb d (c .me))) (ltb from (getD s d 0 + getD (l .durations) d 0)) (ltb (getD s d 0) (c .till)))
+
+  -- Start supports the opening facts that no job blocks
+  pub start-of : (w v : ℕ) → Word (λ p. any (blocks (problem l q) (starts s) p (consumer c) 0 0) (q .jobs)) w → Word (λ p. has (q .opening) p && not (has w p)) v
+      → Word (λ p. startFits (problem l q) (starts s) p (consumer c)) v
+  unfolding startFits
+  start-of w v g h p = h p ∙ ap (λ (x : Bool). has (q .opening) p && not x) (g p)
+
+  -- job a supports what it adds and no job blocks, if it is over in time
+  pub job-of : (a w v : ℕ) {y : Bool} → y ≡ (chosen (getD s a 0) && leb (getD s a 0 + getD (l .durations) a 0) (c .at)) → y ≡ true
+      → Word (λ p. any (blocks (problem l q) (starts s) p (consumer c) 0 (getD s a 0)) (q .jobs)) w → Word (λ p. has (getD (l .additions) a 0) p && not (has w p)) v
+      → Word (λ p. jobFits (problem l q) (starts s) p (consumer c) a) v
+  unfolding jobFits inPlan
+  job-of a w v e t g h p =
+      h p ∙ ap (λ (x : Bool). has (getD (l .additions) a 0) p && not x) (g p)
+      ∙ simp add-zero (fit-yes (chosen (getD s a 0)) (has (getD (l .additions) a 0) p) (leb (getD s a 0 + getD (l .durations) a 0) (c .at)) _ (sym e ∙ t))
+
+  pub job-none : (a : ℕ) {y : Bool} → y ≡ (chosen (getD s a 0) && leb (getD s a 0 + getD (l .durations) a 0) (c .at)) → y ≡ false
+      → Word (λ p. jobFits (problem l q) (starts s) p (consumer c) a) 0
+  unfolding jobFits inPlan
+  job-none a e t p =
+      no-fact p
+      ∙ simp add-zero (fit-no (chosen (getD s a 0)) (has (getD (l .additions) a 0) p) (leb (getD s a 0 + getD (l .durations) a 0) (c .at)) _ (sym e ∙ t))

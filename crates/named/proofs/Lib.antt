@@ -1,0 +1,3 @@
+pub mod Tests
+pub mod Rows
+pub mod Blocks

@@ -1,0 +1,160 @@
+// The named supports of an offered plan, a row at a time and by words.
+use tables::Ask;
+use tables::Loaded;
+ghost use mathlib.Core.Path.{_≡_};
+ghost use mathlib.Core.Bool.{not, _&&_};
+ghost use Prim.Native.Nat.{_+_, _≤_, _<_};
+ghost use lib.Dec.{eqb, leb, ltb};
+ghost use Rattle.facts.specs.Facts.{has, Word};
+ghost use Rattle.facts.specs.Least.{any};
+ghost use Rattle.rules.specs.Plans.{starts};
+ghost use Rattle.rules.specs.Supports.{blocks, startFits, jobFits};
+ghost use Rattle.tables.specs.Tables.{problem};
+ghost use Rattle.verdict.specs.Offered.{Given, chosen};
+ghost use Rattle.named.specs.Named.{consumer, inRow, wants, RowOf, RowAt};
+
+// Who has the conditions of a row, a job or End: its number, start and finish.
+pub struct Holder {
+    pub me: usize,
+    pub at: u32,
+    pub till: u32,
+}
+
+// The conditions of a row by their named support: Start, or a job.
+pub struct Row {
+    pub start: u64,
+    pub by: [u64; 24],
+}
+
+// The facts of a that are not in b.
+pub fn less(a: u64, b: u64) -> u64
+    ensures { λ r. ⌜ Word (λ p. has a p && not (has b p)) r ⌝ }
+{
+    a & !b
+}
+
+// The job is in and finishes no later than `at`.
+pub fn over_by(start: u16, duration: u16, at: u32) -> bool
+    ensures { λ r. ⌜ r ≡ (chosen start && leb (start + duration) at) ⌝ }
+{
+    start != 65535 && start as u32 + duration as u32 <= at
+}
+
+// The job is in, finishes after `from` and starts before `till`.
+pub fn in_way(start: u16, duration: u16, from: u32, till: u32) -> bool
+    ensures { λ r. ⌜ r ≡ (chosen start && (ltb from (start + duration) && ltb start till)) ⌝ }
+{
+    if start == 65535 {
+        return false;
+    }
+    from < start as u32 + duration as u32 && (start as u32) < till
+}
+
+// The word, where both tests pass.
+pub fn word_if(first: bool, second: bool, w: u64) -> u64
+    ensures { λ r. ⌜ Word (λ p. has w p && (first && second)) r ⌝ }
+{
+    if first {
+        if second {
+            return w;
+        }
+    }
+    0
+}
+
+// The facts that some job deletes which is not the holder, and neither finishes by `from` nor starts after the holder's finish.
+pub fn blocked(l: Loaded, q: Ask, s: &[u16], c: Holder, from: u32) -> u64
+    requires { ⌜ Given q (now s) ⌝ }
+    ensures { λ r. ⌜ Word (λ p. any (blocks (problem l q) (starts (now (s .entry))) p (consumer c) 0 from) (q .jobs)) r ⌝ }
+{
+    let n = q.jobs;
+    let mut w = 0u64;
+    for d in 0..n {
+        let way = in_way(s[d], l.durations[d], from, c.till);
+        w = w | word_if(way, d != c.me, l.deletions[d]);
+    }
+    w
+}
+
+// The facts that Start can support for the holder.
+pub fn start_fits(l: Loaded, q: Ask, s: &[u16], c: Holder) -> u64
+    requires { ⌜ Given q (now s) ⌝ }
+    ensures { λ r. ⌜ Word (λ p. startFits (problem l q) (starts (now (s .entry))) p (consumer c)) r ⌝ }
+{
+    less(q.opening, blocked(l, q, s, c, 0))
+}
+
+// The facts that job a can support for the holder.
+pub fn job_fits(l: Loaded, q: Ask, s: &[u16], c: Holder, a: usize) -> u64
+    requires { ⌜ Given q (now s) × (a < q .jobs) ⌝ }
+    ensures { λ r. ⌜ Word (λ p. jobFits (problem l q) (starts (now (s .entry))) p (consumer c) a) r ⌝ }
+{
+    if over_by(s[a], l.durations[a], c.at) {
+        return less(l.additions[a], blocked(l, q, s, c, s[a] as u32));
+    }
+    0
+}
+
+// The conditions by named support: Start first, then each job what is left.
+pub fn named_row(l: Loaded, q: Ask, s: &[u16], c: Holder, want: u64) -> Row
+    requires { ⌜ Given q (now s) ⌝ }
+    ensures { λ r. ⌜ RowOf (problem l q) (starts (now (s .entry))) (consumer c) (has want) r ⌝ }
+{
+    let n = q.jobs;
+    let start = start_fits(l, q, s, c);
+    let mut left = less(want, start);
+    let mut by = [0u64; 24];
+    for a in 0..n {
+        let fit = job_fits(l, q, s, c, a);
+        by[a] = left & fit;
+        left = less(left, fit);
+    }
+    Row {
+        start: want & start,
+        by,
+    }
+}
+
+// Holder b by its start and its length.
+pub fn holder_at(b: usize, start: u16, duration: u16) -> Holder
+    ensures { λ r. ⌜ consumer r ≡ record { me = b; at = start; till = start + duration; lag = 0 } ⌝ }
+{
+    Holder {
+        me: b,
+        at: start as u32,
+        till: start as u32 + duration as u32,
+    }
+}
+
+// Who has row b: job b, or End after the last job.
+pub fn holder_of(l: Loaded, q: Ask, s: &[u16], b: usize) -> Holder
+    requires { ⌜ Given q (now s) × (b ≤ q .jobs) ⌝ }
+    ensures { λ r. ⌜ consumer r ≡ inRow (eqb b (q .jobs)) (problem l q) (q .bound) (starts (now (s .entry))) b ⌝ }
+{
+    if b == q.jobs {
+        return holder_at(b, q.bound, 0);
+    }
+    holder_at(b, s[b], l.durations[b])
+}
+
+// The conditions of row b; a job that is out has none.
+pub fn wanted(l: Loaded, q: Ask, s: &[u16], b: usize) -> u64
+    requires { ⌜ Given q (now s) × (b ≤ q .jobs) ⌝ }
+    ensures { λ r. ⌜ Word (wants (eqb b (q .jobs)) (problem l q) (starts (now (s .entry))) b) r ⌝ }
+{
+    if b == q.jobs {
+        return q.goals;
+    }
+    if s[b] == 65535 {
+        return 0;
+    }
+    l.conditions[b]
+}
+
+// Row b of the table of supports, by words.
+pub fn row_of(l: Loaded, q: Ask, s: &[u16], b: usize) -> Row
+    requires { ⌜ Given q (now s) × (b ≤ q .jobs) ⌝ }
+    ensures { λ r. ⌜ RowAt (problem l q) (q .bound) (starts (now (s .entry))) b r ⌝ }
+{
+    named_row(l, q, s, holder_of(l, q, s, b), wanted(l, q, s, b))
+}

@@ -1,0 +1,176 @@
+-- The checks of a call with an offered plan, one behind the other, and the plans that are accepted.
+-- Assumes nothing.
+use mathlib.Core.Path.{_≡_, sym, ap, _∙_, subst}
+use mathlib.Core.Logic.{_⊎_, inl, inr, _↔_}
+use mathlib.Core.Bool.{Bool, _&&_, _||_}
+use mathlib.Core.List.{List}
+use Prim.Native.Nat.{ℕ, _^_, _≤_, _<_}
+use native.Mathlib.Omega.{arith}
+use native.Mathlib.Decide.{decLt}
+use lib.Dec.{T, leb, ltb, ltb→lt, lt→ltb, le→leb}
+use lib.ListN.{length, getD}
+use Rattle.facts.specs.Facts.{has}
+use Rattle.facts.proofs.Bools.{and-of, or-cases, or-l, or-r}
+use Rattle.facts.proofs.Least.{any-of}
+use Rattle.facts.proofs.Sets.{has-lt}
+use Rattle.rules.specs.Refusals.{Verdict, accepted, refused}
+use Rattle.rules.specs.Table.{Below, InOrder, strays, jobStrays, tableChecks, boundCheck}
+use Rattle.rules.specs.Plans.{starts, Valid}
+use Rattle.rules.specs.Verdicts.{planChecks}
+use Rattle.rules.proofs.Refused.{Checks, if-pass, if-hit, if-zero, if-checks, then-checks, table-checks, bound-checks, plan-checks, stopped, went-on}
+use Rattle.rules.proofs.Checked.{Passed, passed, in-order}
+use Rattle.rules.proofs.Judged.{judged}
+use Rattle.tables.specs.declared.Loaded.{Loaded}
+use Rattle.tables.specs.declared.Ask.{Ask}
+use Rattle.tables.specs.declared.Answer.{Answer}
+use Rattle.tables.specs.Tables.{problem, answer, callChecks, Judges}
+use Rattle.tables.proofs.Laws.{said}
+use Rattle.verdict.specs.Offered.{offered, Offered}
+
+pub call-checks : (short : Bool) (l : Loaded) (q : Ask) → Checks (callChecks short l q)
+call-checks short l q = then-checks (if-checks (short || ltb (l .lent) (q .jobs)) 3 0 (omega arith)) (table-checks (problem l q))
+
+-- the checks 3 to 9 and 11 to 14 are one list of checks
+pub offered-checks : (short : Bool) (l : Loaded) (q : Ask) (s : List ℕ) → Checks (offered short l q s)
+offered-checks short l q s = then-checks (call-checks short l q) (then-checks (bound-checks (q .bound)) (plan-checks (problem l q) (q .bound) (starts s)))
+
+pub at-most : (m n : ℕ) → (T (ltb n m) → ⊥) → m ≤ n
+at-most m n h = go (decLt n m)
+  where
+    go : Dec (n < m) → m ≤ n
+    go (yes l) = absurd (h (lt→ltb n m l))
+    go (no l) = omega arith
+
+-- every plan is released: 01 knows no release
+judge : (l : Loaded) (q : Ask) (s : List ℕ) → InOrder (problem l q)
+    → (planChecks (problem l q) (q .bound) (starts s) accepted ≡ accepted) ↔ Valid (problem l q) (q .bound) (starts s)
+judge l q s ok = judged (problem l q) ok (q .bound) (starts s) (λ i k. omega arith)
+
+-- ── the answer, check by check ──
+
+module _ (short : Bool) (l : Loaded) (q : Ask) (s : List ℕ) {few : Bool} {A : Type 0} {t : Answer}
+    (said-few : few ≡ (short || ltb (length s) (q .jobs))) (table : Judges (callChecks few l q accepted) A t) where
+  verdict : Verdict
+  verdict = offered (short || ltb (length s) (q .jobs)) l q s accepted
+
+  rest : Verdict
+  rest = boundCheck (q .bound) (planChecks (problem l q) (q .bound) (starts s) accepted)
+
+  number : t .number ≡ callChecks few l q accepted .number
+  number = ap (λ (x : Answer). x .number) (table .says)
+
+  whole : callChecks few l q rest ≡ verdict
+  unfolding verdict rest
+  whole = ap (λ (b : Bool). callChecks b l q rest) said-few
+
+  -- the table is refused
+  pub refuses-table : (t .number ≡ 0 → ⊥) → Offered short l q s t
+  unfolding verdict rest
+  refuses-table n = record {
+    says = table .says ∙ said 0 0 (sym whole ∙ stopped (callChecks few l q) (call-checks few l q) (λ z. n (number ∙ z)) rest);
+    sound = λ z. absurd (n z);
+  }
+
+  module _ (zero : t .number ≡ 0) where
+    on : verdict ≡ rest
+    on = sym whole ∙ went-on (callChecks few l q) (call-checks few l q) (sym number ∙ zero) rest
+
+    -- what checks 3 to 5 leave
+    pub bounds : (T short → ⊥) × (q .jobs ≤ length s) × (q .jobs ≤ 24)
+    bounds =
+        let a = if-zero (few || ltb (l .lent) (q .jobs)) 3 0 _ (omega arith) (went-on (callChecks few l q) (call-checks few l q) (sym number ∙ zero) accepted) in
+        let no : T (short || ltb (length s) (q .jobs)) → ⊥ = λ h. a .0 (or-l few _ (subst T (sym said-few) h)) in
+        (λ h. no (or-l short _ h), at-most (q .jobs) (length s) (λ h. no (or-r short _ h)), passed (problem l q) (a .1) .count)
+
+    -- the bound is refused
+    pub refuses-bound : {r : Answer} → 2880 < q .bound → r ≡ answer (refused 9 0) 0 0 → Offered short l q s r
+    unfolding boundCheck verdict rest
+    refuses-bound {r} h e = record {
+      says = e ∙ said 0 0 (on ∙ if-hit (ltb 2880 (q .bound)) 9 0 _ (lt→ltb 2880 (q .bound) h));
+      sound = λ z. let o : _≡_ {A = ℕ} 9 0 = ap (λ (x : Answer). x .number) (sym e) ∙ z in absurd (omega arith);
+    }
+
+    -- the plan is judged
+    pub judges-plan : {r : Answer} → InOrder (problem l q) → q .bound ≤ 2880 → r ≡ answer (planChecks (problem l q) (q .bound) (starts s) accepted) 0 0 → Offered short l q s r
+    unfolding boundCheck verdict rest
+    judges-plan {r} ok h e = record {
+      says = e ∙ said 0 0 (on ∙ if-pass (ltb 2880 (q .bound)) 9 0 _ (λ x. omega (arith, ltb→lt 2880 (q .bound) x)));
+      sound = λ z. record {
+        room = bounds .0;
+        given = bounds .1;
+        few = bounds .2;
+        order = ok;
+        within = h;
+        valid = judge l q s ok .0
+            (went-on (planChecks (problem l q) (q .bound) (starts s)) (plan-checks (problem l q) (q .bound) (starts s)) (ap (λ (x : Answer). x .number) (sym e) ∙ z) accepted);
+      };
+    }
+
+-- ── exactly these plans are accepted ──
+
+-- the words of a table are words of 64 bits, as the code's types have them
+pub record Words (l : Loaded) (q : Ask) : Type 0 where
+  pub conditions : (i : ℕ) → getD (l .conditions) i 0 < 2 ^ 64
+  pub deletions : (i : ℕ) → getD (l .deletions) i 0 < 2 ^ 64
+  pub goals : q .goals < 2 ^ 64
+
+below : (k w : ℕ) → w < 2 ^ 64 → (T (strays k w) → ⊥) → Below k w
+unfolding strays
+below k w l n p h = go (decLt p k)
+  where
+    go : Dec (p < k) → p < k
+    go (yes m) = m
+    go (no m) = absurd (n (any-of (λ p. leb k p && has w p) 64 p (has-lt 64 w p l h) (and-of (leb k p) _ (le→leb k p (omega arith)) h)))
+
+pub ordered : (l : Loaded) (q : Ask) → Words l q → tableChecks (problem l q) accepted ≡ accepted → InOrder (problem l q)
+unfolding jobStrays
+ordered l q w h = in-order (problem l q) h
+    (λ i m. below (q .atoms) _ (w .conditions i) (λ x. k .facts i m (or-l (strays (q .atoms) (getD (l .conditions) i 0)) _ x)))
+    (λ i m. below (q .atoms) _ (w .deletions i) (λ x. k .facts i m
+    (or-r (strays (q .atoms) (getD (l .conditions) i 0)) _ (or-r (strays (q .atoms) (getD (l .additions) i 0)) _ x))))
+    (below (q .atoms) _ (w .goals) (λ x. k .edges (or-r (strays (q .atoms) (q .opening)) _ x)))
+  where
+    k : Passed (problem l q)
+    k = passed (problem l q) h
+
+-- a list of checks that accepts goes on, whatever comes behind it
+pub goes-on : (C : Verdict → Verdict) → Checks C → (x : Verdict) → C x ≡ accepted → (v : Verdict) → C v ≡ v
+goes-on C (inl (u, ne, e)) x h v = absurd (ne (ap (λ (y : Verdict). y .number) (sym (e x) ∙ h)))
+goes-on C (inr e) x h v = e v
+
+-- the answer's number is 0 exactly when lent memory is long enough, the table is in order by checks 4 to 9 and the plan is valid
+pub exactly : (l : Loaded) (q : Ask) (s : List ℕ) (r : Answer) → Words l q → r ≡ answer (offered (ltb (length s) (q .jobs)) l q s accepted) 0 0
+    → (r .number ≡ 0)
+    ↔ ((q .jobs ≤ length s) × (q .jobs ≤ l .lent) × (tableChecks (problem l q) (boundCheck (q .bound) accepted) ≡ accepted) × Valid (problem l q) (q .bound) (starts s))
+unfolding boundCheck
+exactly l q s r w e = (there, back)
+  where
+    there : r .number ≡ 0
+        → (q .jobs ≤ length s) × (q .jobs ≤ l .lent) × (tableChecks (problem l q) (boundCheck (q .bound) accepted) ≡ accepted) × Valid (problem l q) (q .bound) (starts s)
+    there z =
+        let all = went-on (offered (ltb (length s) (q .jobs)) l q s) (offered-checks (ltb (length s) (q .jobs)) l q s) (ap (λ (x : Answer). x .number) (sym e) ∙ z) accepted in
+        let a = if-zero (ltb (length s) (q .jobs) || ltb (l .lent) (q .jobs)) 3 0 _ (omega arith) all in
+        let on = goes-on (tableChecks (problem l q)) (table-checks (problem l q)) _ (a .1) in
+        let c = if-zero (ltb 2880 (q .bound)) 9 0 _ (omega arith) (sym (on _) ∙ a .1) in (
+          at-most (q .jobs) (length s) (λ h. a .0 (or-l (ltb (length s) (q .jobs)) _ h)),
+          at-most (q .jobs) (l .lent) (λ h. a .0 (or-r (ltb (length s) (q .jobs)) _ h)),
+          on _ ∙ if-pass (ltb 2880 (q .bound)) 9 0 _ (c .0),
+          judge l q s (ordered l q w (on accepted)) .0 (c .1),
+        )
+
+    back : (q .jobs ≤ length s) × (q .jobs ≤ l .lent) × (tableChecks (problem l q) (boundCheck (q .bound) accepted) ≡ accepted) × Valid (problem l q) (q .bound) (starts s)
+        → r .number ≡ 0
+    back (a, b, c, v) =
+        let on = goes-on (tableChecks (problem l q)) (table-checks (problem l q)) _ c in
+        let d = if-zero (ltb 2880 (q .bound)) 9 0 accepted (omega arith) (sym (on _) ∙ c) in
+        let plan : planChecks (problem l q) (q .bound) (starts s) accepted ≡ accepted = judge l q s (ordered l q w (on accepted)) .1 v in
+        ap (λ (x : Answer). x .number) e
+        ∙ ap (λ (x : Verdict). x .number)
+        (if-pass (ltb (length s) (q .jobs) || ltb (l .lent) (q .jobs)) 3 0 _ long ∙ on _ ∙ if-pass (ltb 2880 (q .bound)) 9 0 _ (d .0) ∙ plan)
+      where
+        long : T (ltb (length s) (q .jobs) || ltb (l .lent) (q .jobs)) → ⊥
+        long h = pick (or-cases (ltb (length s) (q .jobs)) _ h)
+          where
+            pick : T (ltb (length s) (q .jobs)) ⊎ T (ltb (l .lent) (q .jobs)) → ⊥
+            pick (inl x) = omega (arith, ltb→lt (length s) (q .jobs) x)
+            pick (inr x) = omega (arith, ltb→lt (l .lent) (q .jobs) x)

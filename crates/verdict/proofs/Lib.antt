@@ -1,0 +1,3 @@
+pub mod Steps
+pub mod Accepted
+pub mod Only

@@ -1,0 +1,269 @@
+// The verdict on an offered plan: refusals 3 to 9 and 11 to 14.
+use tables::Answer;
+use tables::Ask;
+use tables::Loaded;
+ghost use mathlib.Core.Path.{_≡_};
+ghost use mathlib.Core.Bool.{not, _&&_, _||_};
+ghost use Prim.Native.Nat.{_+_, _<_};
+ghost use lib.Dec.{eqb, ltb};
+ghost use lib.ListN.{length};
+ghost use Rattle.facts.specs.Facts.{has, Word};
+ghost use Rattle.facts.specs.Least.{least, any};
+ghost use Rattle.rules.specs.Refusals.{accepted};
+ghost use Rattle.rules.specs.Plans.{starts, afterIf, finishes, interfere};
+ghost use Rattle.rules.specs.Verdicts.{late, overlap, clashes, unready, missing, planChecks};
+ghost use Rattle.tables.specs.declared.Ask.{Ask};
+ghost use Rattle.tables.specs.Tables.{problem, answer};
+ghost use Rattle.verdict.specs.Offered.{offered, Offered, Given, FactsAt, chosen, Nearer, Next};
+
+// A job that deletes these facts deletes a condition or an addition of the other.
+pub fn spoils(deletions: u64, conditions: u64, additions: u64) -> bool
+    ensures { λ r. ⌜ r ≡ any (λ p. has deletions p && (has conditions p || has additions p)) 64 ⌝ }
+{
+    facts::meets(deletions, conditions | additions)
+}
+
+// Jobs i and j are two, and one deletes a condition or an addition of the other.
+pub fn interferes(l: Loaded, i: usize, j: usize) -> bool
+    requires { ⌜ (i < 24) × (j < 24) ⌝ }
+    ensures { λ r. ⌜ ((q : Ask) → r ≡ interfere (problem l q) i j) ⌝ }
+{
+    if i == j {
+        return false;
+    }
+    if spoils(l.deletions[i], l.conditions[j], l.additions[j]) {
+        return true;
+    }
+    spoils(l.deletions[j], l.conditions[i], l.additions[i])
+}
+
+// The job is in and finishes at t.
+pub fn ends_at(start: u16, duration: u16, t: u32) -> bool
+    ensures { λ r. ⌜ r ≡ (chosen start && eqb (start + duration) t) ⌝ }
+{
+    start != 65535 && start as u32 + duration as u32 == t
+}
+
+// The facts after a job that finishes now, or as they were.
+pub fn after_job(state: u64, additions: u64, deletions: u64, now: bool) -> u64
+    ensures { λ r. ⌜ Word (λ p. afterIf now (has additions p) (has deletions p) (has state p)) r ⌝ }
+{
+    if now {
+        return facts::after(state, additions, deletions);
+    }
+    state
+}
+
+// The facts after all finishes at t, in the order of the jobs' numbers.
+pub fn after_finishes(l: Loaded, q: Ask, s: &[u16], t: u32, before: u64) -> u64
+    requires { ⌜ Given q (now s) ⌝ }
+    ensures { λ r. ⌜ Word (λ p. finishes (problem l q) (starts (now (s .entry))) p t (q .jobs) (has before p)) r ⌝ }
+{
+    let n = q.jobs;
+    let mut state = before;
+    for i in 0..n {
+        let ends = ends_at(s[i], l.durations[i], t);
+        state = after_job(state, l.additions[i], l.deletions[i], ends);
+    }
+    state
+}
+
+// The job's finish where it comes after `from` and before best, else best.
+pub fn nearer(start: u16, duration: u16, from: u32, best: u32) -> u32
+    ensures { λ r. ⌜ Nearer start duration from best r ⌝ }
+{
+    let end = start as u32 + duration as u32;
+    if start == 65535 {
+        return best;
+    }
+    if end <= from {
+        return best;
+    }
+    if best <= end {
+        return best;
+    }
+    end
+}
+
+// The next finish after `from` and before till, or till.
+pub fn next_finish(l: Loaded, q: Ask, s: &[u16], from: u32, till: u32) -> u32
+    requires { ⌜ Given q (now s) × (from < till) ⌝ }
+    ensures { λ r. ⌜ Next (problem l q) (starts (now (s .entry))) from till r ⌝ }
+{
+    let n = q.jobs;
+    let mut best = till;
+    for i in 0..n {
+        best = nearer(s[i], l.durations[i], from, best);
+    }
+    best
+}
+
+// The facts at time t: from finish to finish, so that hours in which nothing ends cost nothing.
+pub fn facts_at(l: Loaded, q: Ask, s: &[u16], t: u16) -> u64
+    requires { ⌜ Given q (now s) ⌝ }
+    ensures { λ r. ⌜ FactsAt (problem l q) (starts (now (s .entry))) t r ⌝ }
+{
+    let till = t as u32 + 1;
+    let mut state = q.opening;
+    let mut next = next_finish(l, q, s, 0, till);
+    while next < till {
+        state = after_finishes(l, q, s, next, state);
+        next = next_finish(l, q, s, next, till);
+    }
+    state
+}
+
+// The job is in and ends after t.
+pub fn ends_after(start: u16, duration: u16, t: u16) -> bool
+    ensures { λ r. ⌜ r ≡ (chosen start && ltb t (start + duration)) ⌝ }
+{
+    start != 65535 && (t as u32) < start as u32 + duration as u32
+}
+
+// The lowest job that ends after the bound, or the job count.
+pub fn first_late(l: Loaded, q: Ask, s: &[u16]) -> usize
+    requires { ⌜ Given q (now s) ⌝ }
+    ensures { λ r. ⌜ r ≡ least (late (problem l q) (q .bound) (starts (now (s .entry)))) (q .jobs) ⌝ }
+{
+    let n = q.jobs;
+    for i in 0..n {
+        if ends_after(s[i], l.durations[i], q.bound) {
+            return i;
+        }
+    }
+    n
+}
+
+// Both jobs are in, and each starts before the other finishes: touching is not that.
+pub fn together(a: u16, a_long: u16, b: u16, b_long: u16) -> bool
+    ensures { λ r. ⌜ r ≡ ((chosen a && ltb b (a + «a_long»)) && (chosen b && ltb a (b + «b_long»))) ⌝ }
+{
+    ends_after(a, a_long, b) && ends_after(b, b_long, a)
+}
+
+// Jobs i and j overlap and interfere.
+pub fn overlap(l: Loaded, s: &[u16], i: usize, j: usize) -> bool
+    requires { ⌜ (i < 24) × (j < 24) × (i < length (now s)) × (j < length (now s)) ⌝ }
+    ensures { λ r. ⌜ ((q : Ask) → r ≡ overlap (problem l q) (starts (now (s .entry))) i j) ⌝ }
+{
+    if together(s[i], l.durations[i], s[j], l.durations[j]) {
+        return interferes(l, i, j);
+    }
+    false
+}
+
+// Job i overlaps and interferes with a job of a higher number.
+pub fn clashes(l: Loaded, q: Ask, s: &[u16], i: usize) -> bool
+    requires { ⌜ Given q (now s) × (i < q .jobs) ⌝ }
+    ensures { λ r. ⌜ r ≡ clashes (problem l q) (starts (now (s .entry))) i ⌝ }
+{
+    let n = q.jobs;
+    for j in i + 1..n {
+        if overlap(l, s, i, j) {
+            return true;
+        }
+    }
+    false
+}
+
+// The lowest job that does, or the job count.
+pub fn first_clash(l: Loaded, q: Ask, s: &[u16]) -> usize
+    requires { ⌜ Given q (now s) ⌝ }
+    ensures { λ r. ⌜ r ≡ least (clashes (problem l q) (starts (now (s .entry)))) (q .jobs) ⌝ }
+{
+    let n = q.jobs;
+    for i in 0..n {
+        if clashes(l, q, s, i) {
+            return i;
+        }
+    }
+    n
+}
+
+// The lowest fact that is wanted and not there, 64 for none.
+pub fn first_lacking(have: u64, want: u64) -> u32
+    ensures { λ r. ⌜ r ≡ least (λ p. has want p && not (has have p)) 64 ⌝ }
+{
+    facts::lowest(want & !have)
+}
+
+// Job i is in and misses a condition at its start.
+pub fn unready(l: Loaded, q: Ask, s: &[u16], i: usize) -> bool
+    requires { ⌜ Given q (now s) × (i < q .jobs) ⌝ }
+    ensures { λ r. ⌜ r ≡ unready (problem l q) (starts (now (s .entry))) i ⌝ }
+{
+    if s[i] == 65535 {
+        return false;
+    }
+    let state = facts_at(l, q, s, s[i]);
+    first_lacking(state, l.conditions[i]) < 64
+}
+
+// The lowest job that does, or the job count.
+pub fn first_unready(l: Loaded, q: Ask, s: &[u16]) -> usize
+    requires { ⌜ Given q (now s) ⌝ }
+    ensures { λ r. ⌜ r ≡ least (unready (problem l q) (starts (now (s .entry)))) (q .jobs) ⌝ }
+{
+    let n = q.jobs;
+    for i in 0..n {
+        if unready(l, q, s, i) {
+            return i;
+        }
+    }
+    n
+}
+
+// The lowest goal that is missing at the bound, 64 for none.
+pub fn first_missing(l: Loaded, q: Ask, s: &[u16]) -> u32
+    requires { ⌜ Given q (now s) ⌝ }
+    ensures { λ r. ⌜ r ≡ least (missing (problem l q) (q .bound) (starts (now (s .entry)))) 64 ⌝ }
+{
+    first_lacking(facts_at(l, q, s, q.bound), q.goals)
+}
+
+// Checks 11 to 14.
+pub fn steps_fault(l: Loaded, q: Ask, s: &[u16]) -> Answer
+    requires { ⌜ Given q (now s) ⌝ }
+    ensures { λ r. ⌜ r ≡ answer (planChecks (problem l q) (q .bound) (starts (now (s .entry))) accepted) 0 0 ⌝ }
+{
+    let n = q.jobs;
+    let late = first_late(l, q, s);
+    if late < n {
+        return tables::refuse(11, late as u16, 0);
+    }
+    let clash = first_clash(l, q, s);
+    if clash < n {
+        return tables::refuse(12, clash as u16, 0);
+    }
+    let unready = first_unready(l, q, s);
+    if unready < n {
+        return tables::refuse(13, unready as u16, 0);
+    }
+    let goal = first_missing(l, q, s);
+    if goal < 64 {
+        return tables::refuse(14, goal as u16, 0);
+    }
+    tables::done(0)
+}
+
+// The verdict for calls that lend more memory, of which `short` says that it is too short.
+pub fn plan_fault(l: Loaded, q: Ask, starts: &[u16], short: bool) -> Answer
+    ensures { λ r. ⌜ Offered short l q (now (starts .entry)) r ⌝ }
+{
+    let few = tables::too_short(short, starts.len(), q.jobs);
+    let table = tables::call_fault(l, q, few);
+    if table.number != 0 {
+        return table;
+    }
+    if 2880 < q.bound {
+        return tables::refuse(9, 0, 0);
+    }
+    steps_fault(l, q, starts)
+}
+
+// The verdict on an offered plan.
+pub fn check_plan(l: Loaded, q: Ask, starts: &[u16]) -> Answer
+    ensures { λ r. ⌜ r ≡ answer (offered (ltb (length (now (starts .entry))) (q .jobs)) l q (now (starts .entry)) accepted) 0 0 ⌝ }
+{
+    plan_fault(l, q, starts, false)
+}
