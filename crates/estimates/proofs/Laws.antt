@@ -1,0 +1,96 @@
+-- Rounds of estimates where there is no gap and no release, as in 01.
+-- Assumes nothing.
+use mathlib.Core.Path.{_≡_, sym, ap, ap₂, _∙_}
+use mathlib.Core.Logic.{_⊎_, inl, inr, ⊎-elim}
+use mathlib.Core.Bool.{cond}
+use mathlib.Core.List.{List}
+use Prim.Native.Nat.{ℕ, zero, suc, _+_, _≤_, _<_, min, max}
+use native.Mathlib.Omega.{arith}
+use native.Mathlib.Numerals.{add-one}
+use lib.Dec.{T}
+use Rattle.facts.specs.Facts.{has}
+use Rattle.facts.proofs.Bools.{T?}
+use Rattle.rules.specs.Table.{Problem}
+use Rattle.rules.specs.Estimates.{plus, cheapest, cost, condition, dearest, Estimates}
+use Rattle.rules.proofs.Sums.{sum, sum-falls, cond-yes, cond-no, cond-mono}
+use Rattle.rules.proofs.Early.{cost-free, cost-cap, cost-le, cost-at}
+use Rattle.entries.specs.Entries.{entry, Same}
+use Rattle.estimates.specs.Earliest.{greatest, Costs, Rounds}
+
+-- ── a job or a fact more, as a loop's counter says it ──
+
+pub cheapest-more : (P : Problem) (e : ℕ → ℕ) (p k : ℕ) → min (cond (has (P .additions k) p) (plus (e k) (P .duration k)) 65535) (cheapest P e p k) ≡ cheapest P e p (k + 1)
+unfolding cheapest
+cheapest-more P e p k = ap (cheapest P e p) (sym (add-one k))
+
+pub greatest-more : (w : ℕ) (costs : List ℕ) (p : ℕ) → max (cond (has w p) (entry costs p) 0) (greatest w costs p) ≡ greatest w costs (p + 1)
+unfolding greatest
+greatest-more w costs p = ap (greatest w costs) (sym (add-one p))
+
+-- ── costs ──
+
+pub cost-open : (P : Problem) (e : ℕ → ℕ) (p : ℕ) → T (has (P .opening) p) → 0 ≡ cost P e p
+cost-open P e p o = sym (cost-free P e p o)
+
+pub cost-closed : (P : Problem) (e : ℕ → ℕ) (p : ℕ) → (T (has (P .opening) p) → ⊥) → cheapest P e p (P .count) ≡ cost P e p
+unfolding cost
+cost-closed P e p n = sym (cond-no (has (P .opening) p) 0 (cheapest P e p (P .count)) n)
+
+plus-mono : (e f d : ℕ) → e ≤ f → plus e d ≤ plus f d
+unfolding plus
+plus-mono e f d l = omega arith
+
+-- lower estimates make no fact dearer
+cost-mono : (P : Problem) (e f : ℕ → ℕ) (p : ℕ) → ((j : ℕ) → j < P .count → e j ≤ f j) → cost P e p ≤ cost P f p
+cost-mono P e f p h = ⊎-elim (λ o. omega (arith, cost-free P e p o)) (λ n. go (cost-at P f p n)) (T? (has (P .opening) p))
+  where
+    go : (cost P f p ≡ 65535) ⊎ ((a : ℕ) × (a < P .count) × T (has (P .additions a) p) × (cost P f p ≡ plus (f a) (P .duration a))) → cost P e p ≤ cost P f p
+    go (inl q) = omega (arith, cost-cap P e p)
+    go (inr (a, l, g, q)) = omega (arith, cost-le P e p a l g, plus-mono (e a) (f a) (P .duration a) (h a l))
+
+-- with no gap a condition costs what its fact costs
+condition-cost : (P : Problem) → P .gap ≡ 0 → (e : ℕ → ℕ) (p : ℕ) → condition P e p ≡ cost P e p
+unfolding condition plus
+condition-cost P z e p = ⊎-elim (λ o. cond-yes (has (P .opening) p) 0 _ o ∙ sym (cost-free P e p o))
+    (λ n. cond-no (has (P .opening) p) 0 _ n ∙ omega (arith, cost-cap P e p)) (T? (has (P .opening) p))
+
+-- ── a round ──
+
+module _ (P : Problem) (gap : P .gap ≡ 0) (release : (i : ℕ) → P .release i ≡ 0) where
+  pub greatest-is : (e : ℕ → ℕ) (costs : List ℕ) (i k : ℕ) → k ≤ 64 → Costs P e costs 64 → greatest (P .conditions i) costs k ≡ dearest P e i k
+  unfolding greatest dearest
+  greatest-is e costs i zero l h = sym (release i)
+  greatest-is e costs i (suc p) l h = ap₂ (λ (x y : ℕ). max (cond (has (P .conditions i) p) x 0) y) (h p (omega arith) ∙ sym (condition-cost P gap e p)) (greatest-is e costs i p (omega arith) h)
+
+  dearest-mono : (e f : ℕ → ℕ) (i k : ℕ) → ((j : ℕ) → j < P .count → e j ≤ f j) → dearest P e i k ≤ dearest P f i k
+  unfolding dearest
+  dearest-mono e f i zero h = omega arith
+  dearest-mono e f i (suc k) h =
+      let r : dearest P e i k ≤ dearest P f i k = dearest-mono e f i k h in
+      let m : condition P e k ≤ condition P f k = omega (arith, cost-mono P e f k h, condition-cost P gap e k, condition-cost P gap f k) in
+      omega (arith, cond-mono (has (P .conditions i) k) _ _ 0 m)
+
+  dearest-cap : (e : ℕ → ℕ) (i k : ℕ) → dearest P e i k ≤ 65535
+  unfolding dearest
+  dearest-cap e i zero = omega (arith, release i)
+  dearest-cap e i (suc k) =
+      let r : dearest P e i k ≤ 65535 = dearest-cap e i k in
+      ⊎-elim (λ y. omega (arith, cond-yes (has (P .conditions i) k) (condition P e k) 0 y, condition-cost P gap e k, cost-cap P e k)) (λ n. omega (arith, cond-no (has (P .conditions i) k) (condition P e k) 0 n)) (T? (has (P .conditions i) k))
+
+  -- no estimate is too low
+  abbrev pub High : List ℕ → Type 0
+  High est = (i : ℕ) → i < P .count → dearest P (entry est) i 64 ≤ entry est i
+
+  pub high-first : (est : List ℕ) → ((i : ℕ) → i < P .count → entry est i ≡ 65535) → High est
+  high-first est h i l = omega (arith, h i l, dearest-cap (entry est) i 64)
+
+  pub high-next : (est next : List ℕ) → High est → Rounds P (entry est) next (P .count) → High next
+  high-next est next h r i l = rw (r i l) (dearest-mono (entry next) (entry est) i 64 (λ j m. rw (r j m) (h j m)))
+
+  -- a round that changes an estimate lowers their sum
+  pub sum-less : (est next : List ℕ) → High est → Rounds P (entry est) next (P .count) → (Same est next (P .count) → ⊥) → sum (entry next) (P .count) < sum (entry est) (P .count)
+  sum-less est next h r n = ⊎-elim (λ e. absurd (n (λ i l. sym (e i l)))) (λ m. m) (sum-falls (entry next) (entry est) (P .count) (λ j l. rw (r j l) (h j l)))
+
+  -- and one that changes none has found the solution
+  pub solved : (est next : List ℕ) → Rounds P (entry est) next (P .count) → Same est next (P .count) → Estimates P (entry est)
+  solved est next r s i l = s i l ∙ r i l

@@ -1,0 +1,56 @@
+use borrow.Author.Needs.{needs}
+use mathlib.Core.Path.{_≡_}
+use Prim.Native.Nat.{_-_, _≤_}
+use native.Mathlib.Omega.{arith}
+use lib.ListN.{length, length-set}
+use Rattle.tables.specs.Tables.{problem}
+use Rattle.entries.specs.Entries.{entry}
+use Rattle.entries.proofs.Laws.{stored}
+use Rattle.estimates.specs.Earliest.{Costs}
+use Rattle.estimates.proofs.costs.Statement.{statement}
+use Rattle.estimates.proofs.costs.Tie as tie
+
+abbrev Inv-loop : tie.InvT-loop
+Inv-loop l q est all₀ p₀ all p = (p ≤ 64) × (length all ≡ 64) × Costs (problem l q) (entry est) all p
+
+abbrev μ-loop : tie.MeasureT-loop
+μ-loop l q est all₀ p₀ all p = 64 - p
+
+loop-holds : tie.Need-loop-holds Inv-loop μ-loop
+loop-holds c = (omega arith, search needs, λ k h. absurd (omega arith))
+
+cost-requires : tie.Need-cost-requires Inv-loop μ-loop
+cost-requires c κs = search needs
+
+mul-all : tie.Need-mul-all Inv-loop μ-loop
+mul-all c = search needs
+
+array-write-all : tie.Need-array-write-all Inv-loop μ-loop
+array-write-all c = omega (arith, c .before .before .loop .inv .1)
+
+add-p : tie.Need-add-p Inv-loop μ-loop
+add-p c = search needs
+
+loop-less : tie.Need-loop-less Inv-loop μ-loop
+loop-less c = search needs
+
+loop-again : tie.Need-loop-again Inv-loop μ-loop
+loop-again c = (omega arith, simp length-set (c .before .before .loop .inv .1), stored _ (c .before .before .loop .all) (c .before .before .loop .p) _ (omega (arith, c .before .before .loop .inv .1)) (c .before .before .loop .inv .2) (c .cost .ensures))
+
+returns : tie.Need-returns Inv-loop μ-loop
+returns c = λ k h. c .before .loop .inv .2 k (omega arith)
+
+pub costs-spec : {M : Type 1} → statement M
+costs-spec =
+    tie.close
+    (tie.spec
+    Inv-loop
+    μ-loop
+    loop-holds
+    cost-requires
+    mul-all
+    array-write-all
+    add-p
+    loop-less
+    loop-again
+    returns)

@@ -1,0 +1,4 @@
+pub mod Tests
+pub mod Faults
+pub mod Answers
+pub mod Only

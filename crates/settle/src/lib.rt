@@ -1,0 +1,109 @@
+// Settling of times.
+ghost use mathlib.Core.Path.{_≡_};
+ghost use mathlib.Core.Bool.{not, _&&_, _||_};
+ghost use Prim.Native.Nat.{_/_, _≤_};
+ghost use lib.Dec.{ltb};
+ghost use lib.ListN.{length};
+ghost use Rattle.facts.specs.Facts.{has};
+ghost use Rattle.facts.specs.Least.{least};
+ghost use Rattle.rules.specs.Refusals.{accepted};
+ghost use Rattle.rules.specs.Settling.{settleChecks};
+ghost use Rattle.tables.specs.Tables.{problem, Judges};
+ghost use Rattle.tables.specs.declared.Loaded.{Loaded};
+ghost use Rattle.times.specs.Times.{first, second, Ready};
+ghost use Rattle.settle.specs.Settle.{checks, Sound, Settling};
+use tables::Answer;
+use tables::Ask;
+use tables::Loaded;
+
+fn in_set(set: u64, j: u8) -> bool
+    ensures { λ r. ⌜ r ≡ has set j ⌝ }
+{
+    if 64 <= j {
+        return false;
+    }
+    facts::has(set, j as usize)
+}
+
+// The pair of a and b names a job outside the set.
+fn pair_outside(set: u64, a: u8, b: u8) -> bool
+    ensures { λ r. ⌜ r ≡ not (has set a && has set b) ⌝ }
+{
+    if in_set(set, a) {
+        return !in_set(set, b);
+    }
+    true
+}
+
+// The first of n pairs that does, or n.
+fn first_outside(set: u64, pairs: &[u8], n: usize) -> usize
+    requires { ⌜ n ≤ length (now pairs) / 2 ⌝ }
+    ensures { λ r. ⌜ r ≡ least (λ k. not (has set (first (now (pairs .entry)) k) && has set (second (now (pairs .entry)) k))) n ⌝ }
+{
+    for k in 0..n {
+        let at = 2 * k;
+        if pair_outside(set, pairs[at], pairs[at + 1]) {
+            return k;
+        }
+    }
+    n
+}
+
+// Check 15.
+fn pairs_fault(q: Ask, pairs: &[u8]) -> Answer
+    requires { ⌜ (q .jobs ≤ 24) × (q .pairs ≤ length (now pairs) / 2) ⌝ }
+    ensures { λ r. ⌜ ((l : Loaded) → Judges (settleChecks (problem l q) (q .set) (first (now (pairs .entry))) (second (now (pairs .entry))) (q .pairs) accepted) (Ready q (now (pairs .entry))) r) ⌝ }
+{
+    if tables::word_strays(q.set, q.jobs) {
+        return tables::refuse(15, 601, 0);
+    }
+    let n = q.pairs;
+    if 600 < n {
+        return tables::refuse(15, 600, 0);
+    }
+    let k = first_outside(q.set, pairs, n);
+    if k < n {
+        return tables::refuse(15, k as u16, 0);
+    }
+    tables::done(0)
+}
+
+// Fewer starts are lent than there are jobs, or fewer bytes than two a pair.
+fn too_few(out: usize, jobs: usize, lent: usize, pairs: usize) -> bool
+    ensures { λ r. ⌜ r ≡ (ltb out jobs || ltb (lent / 2) pairs) ⌝ }
+{
+    out < jobs || lent / 2 < pairs
+}
+
+// Checks 3 to 9 and 15; `out` is the number of starts lent.
+fn settle_fault(l: Loaded, q: Ask, pairs: &[u8], out: usize) -> Answer
+    ensures { λ r. ⌜ Judges (checks l q (now (pairs .entry)) out accepted) (Sound l q (now (pairs .entry)) out) r ⌝ }
+{
+    let short = too_few(out, q.jobs, pairs.len(), q.pairs);
+    let fault = tables::call_fault(l, q, short);
+    if fault.number != 0 {
+        return fault;
+    }
+    if 2880 < q.bound {
+        return tables::refuse(9, 0, 0);
+    }
+    pairs_fault(q, pairs)
+}
+
+// The least starts, one a job, into lent memory.
+pub fn settle(l: Loaded, q: Ask, pairs: &[u8], out: &mut [u16]) -> Answer
+    ensures { λ r. ⌜ Settling l q (now (pairs .entry)) (now (out .entry)) r (now (out .exit)) ⌝ }
+{
+    let fault = settle_fault(l, q, pairs, out.len());
+    if fault.number != 0 {
+        return fault;
+    }
+    let r = times::settle_from(l, q, [0u16; 24], pairs);
+    let ok = r.ok;
+    if !ok {
+        return tables::refuse(16, 0, 0);
+    }
+    let starts = r.starts;
+    entries::fill(out, starts, q.jobs);
+    tables::done(0)
+}

@@ -1,0 +1,95 @@
+use borrow.Author.Needs.{needs}
+use mathlib.Core.Path.{_≡_, sym, _∙_}
+use mathlib.Core.Bool.{true≢false}
+use Prim.Native.Nat.{_-_, _≤_}
+use native.Mathlib.Omega.{arith}
+use lib.ListN.{length}
+use denote.Ref.{now}
+use borrow.Author.Tests.{not-true, not-false}
+use Rattle.entries.specs.Entries.{entry}
+use Rattle.times.specs.Times.{Pushed, Behind}
+use Rattle.times.proofs.Laws.{pushes-by, pushed-none, first-job, second-job, pair-none, pair-pushed, pair-behind}
+use Rattle.times.proofs.round.Statement.{statement}
+use Rattle.times.proofs.round.Tie as tie
+
+abbrev Inv-loop : tie.InvT-loop
+Inv-loop q pairs l n s₀ k₀ s k = (k ≤ n) × (length s ≡ 24) × Pushed l q pairs (entry s₀) (entry s) × Behind l q pairs (entry s₀) (entry s) k
+
+abbrev μ-loop : tie.MeasureT-loop
+μ-loop q pairs l n s₀ k₀ s k = n - k
+
+loop-holds : tie.Need-loop-holds Inv-loop μ-loop
+loop-holds c = (omega arith, search needs, pushed-none (c .before .args .t1) (c .before .args .q) (now (c .before .args .pairs)) (entry (c .before .args .t)), λ i h. absurd (omega arith))
+
+mul-at : tie.Need-mul-at Inv-loop μ-loop
+mul-at c = omega arith
+
+shared-slice-read-job : tie.Need-shared-slice-read-job Inv-loop μ-loop
+shared-slice-read-job c = omega arith
+
+job-requires : tie.Need-job-requires Inv-loop μ-loop
+job-requires c κs = search needs
+
+add-job : tie.Need-add-job Inv-loop μ-loop
+add-job c = omega arith
+
+shared-slice-read-job-2 : tie.Need-shared-slice-read-job-2 Inv-loop μ-loop
+shared-slice-read-job-2 c = omega arith
+
+job-requires-2 : tie.Need-job-requires-2 Inv-loop μ-loop
+job-requires-2 c κs = search needs
+
+mul-push : tie.Need-mul-push Inv-loop μ-loop
+mul-push c = omega (arith, first-job (c .before .before .before .before .before .before .before .args .t1) (c .before .before .before .before .before .before .before .args .q) (now (c .before .before .before .before .before .before .before .args .pairs)) (c .before .before .before .before .before .before .before .pre) (c .before .before .before .before .before .loop .k) (c .before .before .before .before .loop-test .taken), c .before .before .job .ensures, c .before .before .before .before .before .before .before .pre .few)
+
+element-copy-out-push : tie.Need-element-copy-out-push Inv-loop μ-loop
+element-copy-out-push c = omega (arith, first-job (c .before .before .before .before .before .before .before .args .t1) (c .before .before .before .before .before .before .before .args .q) (now (c .before .before .before .before .before .before .before .args .pairs)) (c .before .before .before .before .before .before .before .pre) (c .before .before .before .before .before .loop .k) (c .before .before .before .before .loop-test .taken), c .before .before .job .ensures, c .before .before .before .before .before .before .before .pre .few)
+
+mul-push-2 : tie.Need-mul-push-2 Inv-loop μ-loop
+mul-push-2 c = omega (arith, second-job (c .before .before .before .before .before .before .before .before .args .t1) (c .before .before .before .before .before .before .before .before .args .q) (now (c .before .before .before .before .before .before .before .before .args .pairs)) (c .before .before .before .before .before .before .before .before .pre) (c .before .before .before .before .before .before .loop .k) (c .before .before .before .before .before .loop-test .taken), c .before .job2 .ensures, c .before .before .before .before .before .before .before .before .pre .few)
+
+element-copy-out-push-2 : tie.Need-element-copy-out-push-2 Inv-loop μ-loop
+element-copy-out-push-2 c = omega (arith, second-job (c .before .before .before .before .before .before .before .before .args .t1) (c .before .before .before .before .before .before .before .before .args .q) (now (c .before .before .before .before .before .before .before .before .args .pairs)) (c .before .before .before .before .before .before .before .before .pre) (c .before .before .before .before .before .before .loop .k) (c .before .before .before .before .before .loop-test .taken), c .before .job2 .ensures, c .before .before .before .before .before .before .before .before .pre .few)
+
+push-requires : tie.Need-push-requires Inv-loop μ-loop
+push-requires c κs = (omega (arith, first-job (c .before .before .before .before .before .before .before .before .before .args .t1) (c .before .before .before .before .before .before .before .before .before .args .q) (now (c .before .before .before .before .before .before .before .before .before .args .pairs)) (c .before .before .before .before .before .before .before .before .before .pre) (c .before .before .before .before .before .before .before .loop .k) (c .before .before .before .before .before .before .loop-test .taken), c .before .before .before .before .job .ensures, c .before .before .before .before .before .before .before .before .before .pre .few), omega (arith, second-job (c .before .before .before .before .before .before .before .before .before .args .t1) (c .before .before .before .before .before .before .before .before .before .args .q) (now (c .before .before .before .before .before .before .before .before .before .args .pairs)) (c .before .before .before .before .before .before .before .before .before .pre) (c .before .before .before .before .before .before .before .loop .k) (c .before .before .before .before .before .before .loop-test .taken), c .before .before .job2 .ensures, c .before .before .before .before .before .before .before .before .before .pre .few))
+
+returns : tie.Need-returns Inv-loop μ-loop
+returns c = let e = not-true _ (c .if1 .taken) in
+    record { pushed = λ o. absurd (true≢false (sym o ∙ e)); behind = λ o. absurd (true≢false (sym o ∙ e)); none = λ o. pair-none (c .before .before .before .before .before .before .before .before .before .before .before .args .t1) (c .before .before .before .before .before .before .before .before .before .before .before .args .q) (now (c .before .before .before .before .before .before .before .before .before .before .before .args .pairs)) (c .before .before .before .before .before .before .before .before .before .before .before .pre) (entry (c .before .before .before .before .before .before .before .before .before .before .before .args .t)) (c .before .before .before .before .before .before .before .before .before .loop .s) (c .before .before .before .before .before .before .before .before .before .loop .k) (c .before .before .before .before .before .before .before .before .loop-test .taken) (c .before .before .before .before .before .before .before .before .before .loop .inv .2) (c .before .push .result) (pushes-by (c .before .before .before .before .before .before .before .before .before .before .before .args .t1) (c .before .before .before .before .before .before .before .before .before .before .before .args .q) (c .before .before .before .before .before .before .before .before .before .loop .s) (c .before .push .result) (c .before .before .before .before .before .before .job .ensures) (c .before .before .before .before .job2 .ensures) (c .before .push .ensures)) e }
+
+add-k : tie.Need-add-k Inv-loop μ-loop
+add-k c = search needs
+
+loop-less : tie.Need-loop-less Inv-loop μ-loop
+loop-less c = search needs
+
+loop-again : tie.Need-loop-again Inv-loop μ-loop
+loop-again c = (omega arith, search needs, pair-pushed (c .before .before .before .before .before .before .before .before .before .before .before .before .args .t1) (c .before .before .before .before .before .before .before .before .before .before .before .before .args .q) (now (c .before .before .before .before .before .before .before .before .before .before .before .before .args .pairs)) (c .before .before .before .before .before .before .before .before .before .before .before .before .pre) (entry (c .before .before .before .before .before .before .before .before .before .before .before .before .args .t)) (c .before .before .before .before .before .before .before .before .before .before .loop .s) (c .before .before .before .before .before .before .before .before .before .before .loop .k) (c .before .before .before .before .before .before .before .before .before .loop-test .taken) (c .before .before .before .before .before .before .before .before .before .before .loop .inv .2) (c .before .before .push .result) (pushes-by (c .before .before .before .before .before .before .before .before .before .before .before .before .args .t1) (c .before .before .before .before .before .before .before .before .before .before .before .before .args .q) (c .before .before .before .before .before .before .before .before .before .before .loop .s) (c .before .before .push .result) (c .before .before .before .before .before .before .before .job .ensures) (c .before .before .before .before .before .job2 .ensures) (c .before .before .push .ensures)) (not-false _ (c .before .if1 .left)), pair-behind (c .before .before .before .before .before .before .before .before .before .before .before .before .args .t1) (c .before .before .before .before .before .before .before .before .before .before .before .before .args .q) (now (c .before .before .before .before .before .before .before .before .before .before .before .before .args .pairs)) (c .before .before .before .before .before .before .before .before .before .before .before .before .pre) (entry (c .before .before .before .before .before .before .before .before .before .before .before .before .args .t)) (c .before .before .before .before .before .before .before .before .before .before .loop .s) (c .before .before .before .before .before .before .before .before .before .before .loop .k) (c .before .before .before .before .before .before .before .before .before .loop-test .taken) (c .before .before .before .before .before .before .before .before .before .before .loop .inv .2) (c .before .before .push .result) (pushes-by (c .before .before .before .before .before .before .before .before .before .before .before .before .args .t1) (c .before .before .before .before .before .before .before .before .before .before .before .before .args .q) (c .before .before .before .before .before .before .before .before .before .before .loop .s) (c .before .before .push .result) (c .before .before .before .before .before .before .before .job .ensures) (c .before .before .before .before .before .job2 .ensures) (c .before .before .push .ensures)) (c .before .before .before .before .before .before .before .before .before .before .loop .inv .3) (not-false _ (c .before .if1 .left)))
+
+returns-2 : tie.Need-returns-2 Inv-loop μ-loop
+returns-2 c = record { pushed = λ o. c .before .loop .inv .2; behind = λ o i h. c .before .loop .inv .3 i (omega arith); none = λ o. absurd (true≢false o) }
+
+pub round-spec : {M : Type 1} → statement M
+round-spec =
+    tie.close
+    (tie.spec
+    Inv-loop
+    μ-loop
+    loop-holds
+    mul-at
+    shared-slice-read-job
+    job-requires
+    add-job
+    shared-slice-read-job-2
+    job-requires-2
+    mul-push
+    element-copy-out-push
+    mul-push-2
+    element-copy-out-push-2
+    push-requires
+    returns
+    add-k
+    loop-less
+    loop-again
+    returns-2)

@@ -1,0 +1,151 @@
+// Least starts that keep ordered pairs: starts are pushed along the pairs until a round changes nothing.
+ghost use mathlib.Core.Path.{_≡_};
+ghost use mathlib.Core.Bool.{cond, _&&_};
+ghost use Prim.Native.Nat.{_+_, _≤_, _<_};
+ghost use lib.Dec.{ltb};
+ghost use Rattle.facts.specs.Facts.{has, Decides};
+ghost use Rattle.tables.specs.Tables.{problem};
+ghost use Rattle.entries.specs.Entries.{entry};
+ghost use Rattle.times.specs.Times.{asks, Ready, Begins, Ends, Pushes, Round, Rounds, Found};
+use tables::Ask;
+use tables::Loaded;
+
+// Starts, and whether there are such starts.
+pub struct Outcome {
+    pub ok: bool,
+    pub starts: [u16; 24],
+}
+
+fn job(x: u8) -> usize
+    ensures { λ r. ⌜ r ≡ x ⌝ }
+{
+    x as usize
+}
+
+// Job b starts no earlier than job a finishes; refused where b would then end after the bound.
+fn push(t: [u16; 24], a: usize, b: usize, first: u16, second: u16, bound: u16) -> Outcome
+    requires { ⌜ (a < 24) × (b < 24) ⌝ }
+    ensures { λ r. ⌜ Pushes t b (entry t a + first) second bound r ⌝ }
+{
+    let x = entries::wide(t[a]) + entries::wide(first);
+    if entries::wide(bound) < x + entries::wide(second) {
+        return Outcome {
+            ok: false,
+            starts: t,
+        };
+    }
+    let mut s = t;
+    s[b] = entries::higher(t[b], x as u16);
+    Outcome {
+        ok: true,
+        starts: s,
+    }
+}
+
+// Every pair once.
+fn round(l: Loaded, q: Ask, pairs: &[u8], t: [u16; 24]) -> Outcome
+    requires { ⌜ Ready q (now pairs) ⌝ }
+    ensures { λ r. ⌜ Round l q (now (pairs .entry)) (entry t) r ⌝ }
+{
+    let n = q.pairs;
+    let mut s = t;
+    for k in 0..n {
+        let at = 2 * k;
+        let a = job(pairs[at]);
+        let b = job(pairs[at + 1]);
+        let r = push(s, a, b, l.durations[a], l.durations[b], q.bound);
+        let ok = r.ok;
+        if !ok {
+            return r;
+        }
+        s = r.starts;
+    }
+    Outcome {
+        ok: true,
+        starts: s,
+    }
+}
+
+// Rounds until nothing changes.
+fn rounds(l: Loaded, q: Ask, pairs: &[u8], t: [u16; 24]) -> Outcome
+    requires { ⌜ Ready q (now pairs) ⌝ }
+    ensures { λ r. ⌜ Rounds l q (now (pairs .entry)) (entry t) r ⌝ }
+{
+    let n = q.jobs;
+    let mut s = t;
+    loop {
+        let r = round(l, q, pairs, s);
+        let ok = r.ok;
+        if !ok {
+            return r;
+        }
+        let next = r.starts;
+        if entries::same(s, next, n) {
+            return r;
+        }
+        s = next;
+    }
+}
+
+// A job of the set begins at its earliest, another is out.
+fn begin_at(set: u64, j: usize, lo: u16) -> u16
+    requires { ⌜ j < 64 ⌝ }
+    ensures { λ r. ⌜ r ≡ cond (has set j) lo 65535 ⌝ }
+{
+    if facts::has(set, j) {
+        return lo;
+    }
+    65535
+}
+
+fn begin(q: Ask, lo: [u16; 24]) -> [u16; 24]
+    requires { ⌜ q .jobs ≤ 24 ⌝ }
+    ensures { λ r. ⌜ Begins q (entry lo) r (q .jobs) ⌝ }
+{
+    let n = q.jobs;
+    let mut t = [65535u16; 24];
+    for j in 0..n {
+        t[j] = begin_at(q.set, j, lo[j]);
+    }
+    t
+}
+
+// Job j is of the set and ends after the bound.
+fn late(set: u64, j: usize, start: u16, span: u16, bound: u16) -> bool
+    requires { ⌜ j < 64 ⌝ }
+    ensures { λ r. ⌜ r ≡ (has set j && ltb bound (start + span)) ⌝ }
+{
+    if facts::has(set, j) {
+        return entries::wide(bound) < entries::wide(start) + entries::wide(span);
+    }
+    false
+}
+
+// All jobs of the set end by the bound.
+fn all_end(l: Loaded, q: Ask, t: [u16; 24]) -> bool
+    requires { ⌜ q .jobs ≤ 24 ⌝ }
+    ensures { λ r. ⌜ Decides r (Ends l q (entry t) (q .jobs)) ⌝ }
+{
+    let n = q.jobs;
+    for j in 0..n {
+        if late(q.set, j, t[j], l.durations[j], q.bound) {
+            return false;
+        }
+    }
+    true
+}
+
+// The least starts from the earliest starts `lo`.
+pub fn settle_from(l: Loaded, q: Ask, lo: [u16; 24], pairs: &[u8]) -> Outcome
+    requires { ⌜ Ready q (now pairs) ⌝ }
+    ensures { λ r. ⌜ Found (problem l q) (asks (entry lo) q (now (pairs .entry))) r ⌝ }
+{
+    let t = begin(q, lo);
+    if all_end(l, q, t) {
+        return rounds(l, q, pairs, t);
+    }
+    Outcome {
+        ok: false,
+        starts: t,
+    }
+}
