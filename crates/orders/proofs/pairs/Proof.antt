@@ -1,0 +1,38 @@
+use native.Mathlib.Omega.{arith}
+use Prim.Native.Nat.{_-_, _≤_}
+use borrow.Author.Needs.{needs}
+use Rattle.states.proofs.Keep.{keeps-refl, keeps-trans}
+use Rattle.orders.specs.View.{Prunes, Tabled}
+use Rattle.orders.proofs.pairs.Statement.{statement}
+use Rattle.orders.proofs.pairs.Tie as tie
+
+abbrev Inv-loop : tie.InvT-loop
+Inv-loop steps hits t₀ b₀ t b = (b ≤ 24) × Prunes (Tabled steps hits) t₀ t
+
+abbrev μ-loop : tie.MeasureT-loop
+μ-loop steps hits t₀ b₀ t b = 24 - b
+
+loop-holds : tie.Need-loop-holds Inv-loop μ-loop
+loop-holds c = (omega arith, λ P wf e. keeps-refl _)
+
+pairs-at-requires : tie.Need-pairs-at-requires Inv-loop μ-loop
+pairs-at-requires c κs = search needs
+
+add-b : tie.Need-add-b Inv-loop μ-loop
+add-b c = search needs
+
+loop-less : tie.Need-loop-less Inv-loop μ-loop
+loop-less c = search needs
+
+loop-again : tie.Need-loop-again Inv-loop μ-loop
+loop-again c =
+    let l = (c .before .before .loop) in
+    (omega arith, λ P wf e. keeps-trans (l .inv .1 P wf e) (c .pairs-at .ensures P wf e))
+
+returns : tie.Need-returns Inv-loop μ-loop
+returns c = c .before .loop .inv .1
+
+pub pairs-spec : {M : Type 1} → statement M
+pairs-spec =
+    tie.close
+    (tie.spec Inv-loop μ-loop loop-holds pairs-at-requires add-b loop-less loop-again returns)

@@ -1,0 +1,16 @@
+use borrow.Author.Needs.{needs}
+use Rattle.planner.proofs.Laws as ll
+use Rattle.planner.proofs.try_without.Statement.{statement}
+use Rattle.planner.proofs.try_without.Tie as tie
+
+put-barred-requires : tie.Need-put-barred-requires
+put-barred-requires c κs = search needs
+
+pick-requires : tie.Need-pick-requires
+pick-requires c κs = search needs
+
+returns : tie.Need-returns
+returns c = ll.without-is (c .before .put-barred .ensures) (c .pick .ensures)
+
+pub try-without-spec : {M : Type 1} → statement M
+try-without-spec = tie.close (tie.spec put-barred-requires pick-requires returns)
