@@ -1,0 +1,4 @@
+pub mod Laws
+pub mod Answers
+pub mod Only
+pub mod Found

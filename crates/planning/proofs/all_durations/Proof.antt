@@ -1,0 +1,59 @@
+use borrow.Author.Needs.{needs}
+use native.Mathlib.Omega.{arith}
+use Prim.Native.Nat.{_+_, _-_, _*_, _≤_}
+use mathlib.Core.Path.{_≡_, refl}
+use lib.ListN.{getD}
+use Rattle.rules.proofs.Sums.{sum}
+use Rattle.planning.proofs.Laws.{sum-next}
+use Rattle.planning.proofs.all_durations.Statement.{statement}
+use Rattle.planning.proofs.all_durations.Tie as tie
+
+abbrev Inv-loop : tie.InvT-loop
+Inv-loop n l all₀ j₀ all j = (j ≤ n) × (all ≡ sum (λ a. getD (l .durations) a 0 + 0) j) × (all ≤ 65535 * j)
+
+abbrev μ-loop : tie.MeasureT-loop
+μ-loop n l all₀ j₀ all j = n - j
+
+loop-holds : tie.Need-loop-holds Inv-loop μ-loop
+unfolding sum
+loop-holds c = (omega arith, refl, omega arith)
+
+mul-wide : tie.Need-mul-wide Inv-loop μ-loop
+mul-wide c = search needs
+
+element-copy-out-wide : tie.Need-element-copy-out-wide Inv-loop μ-loop
+element-copy-out-wide c = search needs
+
+wide-requires : tie.Need-wide-requires Inv-loop μ-loop
+wide-requires c κs = search needs
+
+add-all : tie.Need-add-all Inv-loop μ-loop
+add-all c = omega (arith, c .wide .ensures .1)
+
+add-j : tie.Need-add-j Inv-loop μ-loop
+add-j c = search needs
+
+loop-less : tie.Need-loop-less Inv-loop μ-loop
+loop-less c = search needs
+
+loop-again : tie.Need-loop-again Inv-loop μ-loop
+loop-again c = (omega arith, omega (arith, c .wide .ensures .0, sum-next (λ a. getD (c .before .before .before .before .args .t1 .durations) a 0 + 0) (c .before .before .before .loop .j)), omega (arith, c .wide .ensures .1))
+
+returns : tie.Need-returns Inv-loop μ-loop
+returns c = let e : c .before .loop .j ≡ c .before .before .args .n = omega arith in rw e at (c .before .loop .inv .1)
+
+pub all-durations-spec : {M : Type 1} → statement M
+all-durations-spec =
+    tie.close
+    (tie.spec
+    Inv-loop
+    μ-loop
+    loop-holds
+    mul-wide
+    element-copy-out-wide
+    wide-requires
+    add-all
+    add-j
+    loop-less
+    loop-again
+    returns)
