@@ -1,0 +1,204 @@
+-- Reading what was written gives back what was saved, whatever stood before.
+-- Assumes nothing.
+use mathlib.Core.Path.{_≡_, sym, ap, ap₂, _∙_, subst}
+use mathlib.Core.Logic.{_⊎_, inl, inr, ⊎-elim}
+use mathlib.Core.Bool.{false, not, _||_}
+use mathlib.Core.List.{List}
+use Prim.Native.Nat.{ℕ, zero, suc, _+_, _-_, _*_, _≤_, _<_, min}
+use native.Mathlib.Omega.{arith}
+use lib.Dec.{T, eqb, ltb, ltb→lt}
+use lib.ListN.{length, getD, take, replicate}
+use lib.Seq.{length-take-le}
+use Rattle.facts.specs.Least.{any}
+use Rattle.facts.proofs.Bools.{or-l, or-cases, below-suc}
+use Rattle.facts.proofs.Least.{any-at}
+use Rattle.rules.specs.Refusals.{Verdict, accepted}
+use Rattle.rules.specs.Table.{tableChecks, boundCheck}
+use Rattle.rules.proofs.Refused.{if-zero, if-pass, table-checks}
+use Rattle.rules.proofs.Checked.{Passed, passed}
+use Rattle.tables.specs.declared.Loaded.{Loaded}
+use Rattle.tables.specs.declared.Ask.{Ask}
+use Rattle.tables.specs.declared.Answer.{Answer}
+use Rattle.tables.specs.Tables.{problem, answer, changed}
+use Rattle.tables.proofs.Lent.{filled-at, filled-same}
+use Rattle.bytes_le.specs.Little.{laid}
+use Rattle.bytes_le.proofs.Stands.{Stands, stands-left, stands-right, stands-drop, stands-take, stands-laid}
+use Rattle.bytes_le.proofs.Laid.{length-laid}
+use Rattle.bytes_le.proofs.Fields.{Found, fields-found}
+use Rattle.jobfile.specs.Format.{recordFields, recordOf, recordsOf, trailerFields, trailerOf, saveOf, lengthAfter, trailerAt, trailerIn, askIn, distanceIn, tooFar, recordsIn, spoilt, field, firstOf, tableIn}
+use Rattle.jobfile.specs.Calls.{problemChecks, saveChecks, readChecks, whole, taken, reading, writeChecks, Writes, Words, saved, firsts, kept}
+use Rattle.jobfile.proofs.Checks.{at-most, both, any-test, write-accepts}
+use Rattle.jobfile.proofs.Saves.{length-records, length-save}
+use Rattle.jobfile.proofs.Same.{checks-same}
+
+-- ── what the checks of the writer passed ──
+
+record Accepted (l : Loaded) (q : Ask) (used size : ℕ) : Type 0 where
+  short : lengthAfter used (q .jobs) ≤ 65536
+  room : lengthAfter used (q .jobs) ≤ size
+  table : tableChecks (problem l q) accepted ≡ accepted
+  bound : boundCheck (q .bound) accepted ≡ accepted
+
+accepted-write : (l : Loaded) (q : Ask) (used size : ℕ) → writeChecks l q used size ≡ accepted → Accepted l q used size
+unfolding writeChecks
+accepted-write l q used size h =
+    let a = if-zero (ltb 65536 n) 1 0 _ (omega arith) h in
+    let b = if-zero (ltb size n || ltb (l .lent) (q .jobs)) 3 0 _ (omega arith) (a .1) in
+    let c = both (boundCheck (q .bound) accepted) (table-checks (problem l q)) (b .1) in
+    record { short = at-most 65536 n (a .0); room = at-most size n (λ x. b .0 (or-l (ltb size n) _ x)); table = c .0; bound = c .1 }
+  where
+    n : ℕ
+    n = lengthAfter used (q .jobs)
+
+-- ── a trailer and records that stand in a file ──
+
+module _ (l : Loaded) (q : Ask) (w : Words l q) (p : Passed (problem l q)) (bound : q .bound ≤ 2880) where
+  trailer-read : (t : List ℕ) → Stands (trailerOf q) 0 t → (askIn t ≡ saved q) × (distanceIn t ≡ 32 * q .jobs)
+  trailer-read t s =
+      let a = p .atoms in
+      let n = p .count in
+      let f = fields-found (trailerFields q) 0 0 t (w .opening, (w .goals, (omega arith, (omega arith, (omega arith, (omega arith, tt)))))) s in
+      (cc (f .0, f .1 .0, f .1 .1 .0, f .1 .1 .1 .0, f .1 .1 .1 .1 .0), f .1 .1 .1 .1 .1 .0)
+
+  module _ (rs : List ℕ) (s : Stands (recordsOf l (q .jobs)) 0 rs) where
+    each : (n : ℕ) → Stands (recordsOf l n) 0 rs → (i : ℕ) → i < n → Stands (recordOf l i) (32 * i + 0) rs
+    unfolding recordsOf
+    each zero h i m = absurd (omega arith)
+    each (suc k) h i m = go (below-suc i k m) (each k (stands-left (recordsOf l k) (recordOf l k) 0 rs h) i)
+      where
+        go : (i < k) ⊎ (i ≡ k) → (i < k → Stands (recordOf l i) (32 * i + 0) rs) → Stands (recordOf l i) (32 * i + 0) rs
+        go (inl x) f = f x
+        go (inr e) f = subst (λ (j : ℕ). Stands (recordOf l j) (32 * j + 0) rs) (sym e) (subst (λ (n : ℕ). Stands (recordOf l k) n rs) at (stands-right (recordsOf l k) (recordOf l k) 0 rs h))
+          where
+            at : 0 + length (recordsOf l k) ≡ 32 * k + 0
+            at = omega (arith, length-records l k)
+
+    found : (i : ℕ) → i < q .jobs
+        → Found (recordFields (getD (l .conditions) i 0) (getD (l .additions) i 0) (getD (l .deletions) i 0) (getD (l .durations) i 0)) (32 * i) 0 rs
+    found i m =
+        let d = p .durations i m .1 in
+        fields-found _ (32 * i) 0 rs (w .conditions i, (w .additions i, (w .deletions i, (omega arith, (omega arith, tt))))) (each (q .jobs) s i m)
+
+    clean : T (any (spoilt rs) (q .jobs)) → ⊥
+    unfolding spoilt
+    clean h =
+        let y = any-at (spoilt rs) (q .jobs) h in
+        subst T (sym (any-test 6 rs (32 * y .0 + 26)) ∙ ap (λ (n : ℕ). not (eqb n 0)) (found (y .0) (y .1) .1 .1 .1 .1 .0)) (y .2)
+
+    table-is : (room : ℕ) → tableIn rs (q .jobs) room ≡ kept l (q .jobs) room
+    table-is room =
+        let m : min (q .jobs) 24 ≡ q .jobs = omega (arith, p .count) in
+        ap (λ (n : ℕ). firstOf rs n room) m
+        ∙ cc (
+          filled-same (field 8 rs 0) (λ i. getD (l .conditions) i 0) (q .jobs) (replicate 24 0) (λ i h. found i h .0),
+          filled-same (field 8 rs 8) (λ i. getD (l .additions) i 0) (q .jobs) (replicate 24 0) (λ i h. found i h .1 .0),
+          filled-same (field 8 rs 16) (λ i. getD (l .deletions) i 0) (q .jobs) (replicate 24 0) (λ i h. found i h .1 .1 .0),
+          filled-same (field 2 rs 24) (λ i. getD (l .durations) i 0) (q .jobs) (replicate 24 0) (λ i h. found i h .1 .1 .1 .0),
+        )
+
+  -- the table that comes back is judged as the one that was saved
+  kept-accepted : (room : ℕ) → q .jobs ≤ room → tableChecks (problem l q) accepted ≡ accepted → boundCheck (q .bound) accepted ≡ accepted
+      → problemChecks false (kept l (q .jobs) room) (saved q) ≡ accepted
+  kept-accepted room lent t b =
+      if-pass _ 3 0 _ (λ h. omega (arith, ltb→lt room (q .jobs) h))
+      ∙ ap (tableChecks (problem (kept l (q .jobs) room) (saved q))) b
+      ∙ checks-same (q .jobs) (q .atoms) (q .opening) (q .goals) _ _ _ _ _ _ _ _ accepted (record { conditions = at (l .conditions); additions = at (l .additions); deletions = at (l .deletions); durations = at (l .durations) })
+      ∙ t
+    where
+      within : (i : ℕ) → i < q .jobs → i < 24
+      within i h = omega (arith, p .count)
+
+      at : (xs : List ℕ) (i : ℕ) → i < q .jobs → getD (firsts xs (q .jobs)) i 0 ≡ getD xs i 0
+      at xs i h = filled-at (λ j. getD xs j 0) (q .jobs) (replicate 24 0) i 0 h (within i h)
+
+-- ── there and back ──
+
+-- a file that ends in a save, from place `base` on
+module _ (l : Loaded) (q : Ask) (w : Words l q) (base size : ℕ) (a : Accepted l q base size) (file : List ℕ) (long : length file ≡ lengthAfter base (q .jobs))
+    (s : Stands (saveOf l q) base file) where
+  p : Passed (problem l q)
+  p = passed (problem l q) (a .table)
+
+  bounded : q .bound ≤ 2880
+  unfolding boundCheck
+  bounded = at-most 2880 (q .bound) (if-zero (ltb 2880 (q .bound)) 9 0 _ (omega arith) (a .bound) .0)
+
+  trailer-at : trailerAt file ≡ base + 32 * q .jobs
+  trailer-at = omega (arith, long)
+
+  trailer-is : (askIn (trailerIn file) ≡ saved q) × (distanceIn (trailerIn file) ≡ 32 * q .jobs)
+  unfolding saveOf
+  trailer-is =
+      trailer-read l q w p bounded (trailerIn file)
+      (stands-drop (trailerOf q) (trailerAt file) 0 file
+      (subst (λ (n : ℕ). Stands (trailerOf q) n file) at (stands-right (recordsOf l (q .jobs)) (trailerOf q) base file s)))
+    where
+      at : base + length (recordsOf l (q .jobs)) ≡ trailerAt file + 0
+      at = omega (arith, length-records l (q .jobs), trailer-at)
+
+  records-are : Stands (recordsOf l (q .jobs)) 0 (recordsIn file)
+  unfolding saveOf
+  records-are =
+      stands-take (recordsOf l (q .jobs)) _ 0 _ fits
+      (stands-drop (recordsOf l (q .jobs)) (trailerAt file - distanceIn (trailerIn file)) 0 file
+      (subst (λ (n : ℕ). Stands (recordsOf l (q .jobs)) n file) at (stands-left (recordsOf l (q .jobs)) (trailerOf q) base file s)))
+    where
+      fits : 0 + length (recordsOf l (q .jobs)) ≤ 32 * askIn (trailerIn file) .jobs
+      fits = omega (arith, length-records l (q .jobs), ap (λ (x : Ask). x .jobs) (trailer-is .0))
+
+      at : base ≡ trailerAt file - distanceIn (trailerIn file) + 0
+      at = omega (arith, trailer-at, trailer-is .1)
+
+  near : T (tooFar (distanceIn (trailerIn file)) (askIn (trailerIn file) .jobs) (trailerAt file)) → ⊥
+  near h =
+      let n = ap (λ (x : Ask). x .jobs) (trailer-is .0) in
+      ⊎-elim (λ x. omega (arith, ltb→lt (distanceIn (trailerIn file)) (32 * askIn (trailerIn file) .jobs) x, trailer-is .1))
+      (λ x. omega (arith, ltb→lt (trailerAt file) (distanceIn (trailerIn file)) x, trailer-is .1, trailer-at))
+      (or-cases (ltb (distanceIn (trailerIn file)) (32 * askIn (trailerIn file) .jobs)) _ h)
+
+  module _ (room : ℕ) (lent : q .jobs ≤ room) where
+    table-same : tableIn (recordsIn file) (askIn (trailerIn file) .jobs) room ≡ kept l (q .jobs) room
+    table-same = ap (λ (x : Ask). tableIn (recordsIn file) (x .jobs) room) (trailer-is .0) ∙ table-is l q w p bounded (recordsIn file) records-are room
+
+    judged : problemChecks false (tableIn (recordsIn file) (askIn (trailerIn file) .jobs) room) (askIn (trailerIn file)) ≡ accepted
+    judged = ap₂ (problemChecks false) table-same (trailer-is .0) ∙ kept-accepted l q w p bounded room lent (a .table) (a .bound)
+
+    reads : readChecks file room ≡ accepted
+    unfolding readChecks saveChecks
+    reads =
+        if-pass _ 1 0 _ (λ h. omega (arith, ltb→lt 65536 (length file) h, long, a .short))
+        ∙ if-pass _ 2 0 _ (λ h. omega (arith, ltb→lt (length file) 24 h, long))
+        ∙ if-pass _ 2 0 _ near
+        ∙ if-pass _ 2 0 _ (λ h. clean l q w p bounded (recordsIn file) records-are (subst (λ (x : Ask). T (any (spoilt (recordsIn file)) (x .jobs))) (trailer-is .0) h))
+        ∙ judged
+
+    reading-is : reading file room ≡ whole (answer accepted 0 0) (saved q) (kept l (q .jobs) room)
+    reading-is = ap (λ (v : Verdict). taken v file room) reads ∙ ap₂ (whole (answer accepted 0 0)) (trailer-is .0) table-same
+
+-- the first bytes, up to the new length, of what was written
+pub read-back : (l : Loaded) (q : Ask) (used room : ℕ) (buf : List ℕ) → writeChecks l q used (length buf) ≡ accepted → Words l q → q .jobs ≤ room
+    → reading (take (lengthAfter used (q .jobs)) (laid (saveOf l q) used buf)) room ≡ whole (answer accepted 0 0) (saved q) (kept l (q .jobs) room)
+read-back l q used room buf h w lent =
+    reading-is l q w used (length buf) a (take n (laid (saveOf l q) used buf)) (length-take-le n _ (omega (arith, length-laid (saveOf l q) used buf (omega (arith, long, a .room)), a .room)))
+    (stands-take (saveOf l q) n used _ (omega (arith, long)) (stands-laid (saveOf l q) used buf (omega (arith, a .room)))) room lent
+  where
+    n : ℕ
+    n = lengthAfter used (q .jobs)
+
+    a : Accepted l q used (length buf)
+    a = accepted-write l q used (length buf) h
+
+    long : length (saveOf l q) ≡ 32 * q .jobs + 24
+    long = length-save l q
+
+-- by what the writer promises: where it accepts, the value returned is the length to read
+pub written-back : (l : Loaded) (q : Ask) (used room : ℕ) (old new : List ℕ) (r : Answer) → Writes l q used old new r → r .number ≡ 0 → Words l q → q .jobs ≤ room
+    → reading (take (r .value) new) room ≡ whole (answer accepted 0 0) (saved q) (kept l (q .jobs) room)
+written-back l q used room old new r h z w lent =
+    ap₂ (λ (n : ℕ) (xs : List ℕ). reading (take n xs) room)
+    (ap (λ (x : Answer). x .value) (h .says) ∙ ap (λ (v : Verdict). answer v (lengthAfter used (q .jobs)) 0 .value) yes)
+    (h .bytes ∙ ap (λ (v : Verdict). changed v (laid (saveOf l q) used old) old) yes)
+    ∙ read-back l q used room old yes w lent
+  where
+    yes : writeChecks l q used (length old) ≡ accepted
+    yes = write-accepts l q used (length old) (ap (λ (x : Answer). x .number) (sym (h .says)) ∙ z)

@@ -1,0 +1,105 @@
+-- What the reader and the writer promise.
+-- Assumes nothing.
+use mathlib.Core.Path.{_≡_}
+use mathlib.Core.Bool.{Bool, false, cond}
+use mathlib.Core.List.{List}
+use Prim.Native.Nat.{ℕ, _^_, _<_}
+use lib.Dec.{eqb, ltb}
+use lib.ListN.{length, getD, replicate}
+use Rattle.facts.specs.Least.{any}
+use Rattle.rules.specs.Refusals.{Verdict, accepted, refuseIf}
+use Rattle.rules.specs.Table.{boundCheck}
+use Rattle.tables.specs.declared.Loaded.{Loaded}
+use Rattle.tables.specs.declared.Ask.{Ask}
+use Rattle.tables.specs.declared.Answer.{Answer}
+use Rattle.tables.specs.Tables.{answer, changed, callChecks, filled}
+use Rattle.bytes_le.specs.Little.{laid}
+use Rattle.jobfile.specs.declared.Read.{Read}
+use Rattle.jobfile.specs.Format.{saveOf, lengthAfter, trailerAt, trailerIn, askIn, distanceIn, tooFar, recordsIn, spoilt, tableIn}
+
+-- checks 3 to 9
+abbrev pub problemChecks : (short : Bool) → Loaded → Ask → Verdict
+problemChecks short l q = callChecks short l q (boundCheck (q .bound) accepted)
+
+-- ── reading ──
+
+-- the checks of the records, the last of 2 and 3 to 9: the caller lends `room` records
+abbrev pub recordChecks : List ℕ → Ask → (room : ℕ) → Verdict
+recordChecks rs q room = refuseIf (any (spoilt rs) (q .jobs)) 2 0 (problemChecks false (tableIn rs (q .jobs) room) q)
+
+-- the checks of the distance and the records
+unfoldable pub saveChecks : List ℕ → (room : ℕ) → Verdict
+saveChecks file room =
+    refuseIf (tooFar (distanceIn (trailerIn file)) (askIn (trailerIn file) .jobs) (trailerAt file)) 2 0
+    (recordChecks (recordsIn file) (askIn (trailerIn file)) room)
+
+-- the checks of a reader
+unfoldable pub readChecks : List ℕ → (room : ℕ) → Verdict
+readChecks file room = refuseIf (ltb 65536 (length file)) 1 0 (refuseIf (ltb (length file) 24) 2 0 (saveChecks file room))
+
+-- no numbers, as on refusal
+abbrev pub noAsk : Ask
+noAsk = record { jobs = 0; atoms = 0; opening = 0; goals = 0; bound = 0; set = 0; pairs = 0 }
+
+-- no records
+abbrev pub noTable : Loaded
+noTable = record {
+  conditions = replicate 24 0;
+  additions = replicate 24 0;
+  deletions = replicate 24 0;
+  durations = replicate 24 0;
+  lent = 0;
+}
+
+-- the answer with the numbers and the records
+abbrev pub whole : Answer → Ask → Loaded → Read
+whole a q l = record { answer = a; ask = q; table = l }
+
+-- what is returned on refusal
+abbrev pub nothing : Answer → Read
+nothing a = whole a noAsk noTable
+
+-- what is returned where the checks say v: the numbers and records where they accept
+abbrev pub given : Verdict → Ask → Loaded → Read
+given v q l = cond (eqb (v .number) 0) (whole (answer v 0 0) q l) (nothing (answer v 0 0))
+
+-- the same with what the file holds
+abbrev pub taken : Verdict → List ℕ → (room : ℕ) → Read
+taken v file room = given v (askIn (trailerIn file)) (tableIn (recordsIn file) (askIn (trailerIn file) .jobs) room)
+
+-- what the reader returns
+abbrev pub reading : List ℕ → (room : ℕ) → Read
+reading file room = taken (readChecks file room) file room
+
+-- ── writing ──
+
+-- the checks of a writer, for a buffer of `size` bytes
+unfoldable pub writeChecks : Loaded → Ask → (used size : ℕ) → Verdict
+writeChecks l q used size = refuseIf (ltb 65536 (lengthAfter used (q .jobs))) 1 0 (problemChecks (ltb size (lengthAfter used (q .jobs))) l q)
+
+-- the answer is the new length, and the buffer has the save behind the bytes used; every other byte is as it was
+pub record Writes (l : Loaded) (q : Ask) (used : ℕ) (old new : List ℕ) (r : Answer) : Type 0 where
+  pub says : r ≡ answer (writeChecks l q used (length old)) (lengthAfter used (q .jobs)) 0
+  pub bytes : new ≡ changed (writeChecks l q used (length old)) (laid (saveOf l q) used old) old
+
+-- ── what was saved ──
+
+-- the words are words of 64 bits, as all that code holds
+pub record Words (l : Loaded) (q : Ask) : Type 0 where
+  pub conditions : (i : ℕ) → getD (l .conditions) i 0 < 2 ^ 64
+  pub additions : (i : ℕ) → getD (l .additions) i 0 < 2 ^ 64
+  pub deletions : (i : ℕ) → getD (l .deletions) i 0 < 2 ^ 64
+  pub opening : q .opening < 2 ^ 64
+  pub goals : q .goals < 2 ^ 64
+
+-- the numbers saved: a file holds neither a set nor pairs
+abbrev pub saved : Ask → Ask
+saved q = record { jobs = q .jobs; atoms = q .atoms; opening = q .opening; goals = q .goals; bound = q .bound; set = 0; pairs = 0 }
+
+-- the first n entries of a list of 24, 0 behind them
+abbrev pub firsts : List ℕ → ℕ → List ℕ
+firsts xs n = filled (λ i. getD xs i 0) n (replicate 24 0)
+
+-- the records saved, as a caller that lends `room` records gets them
+abbrev pub kept : Loaded → (n room : ℕ) → Loaded
+kept l n room = record { conditions = firsts (l .conditions) n; additions = firsts (l .additions) n; deletions = firsts (l .deletions) n; durations = firsts (l .durations) n; lent = room }

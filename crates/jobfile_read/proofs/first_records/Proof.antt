@@ -1,0 +1,55 @@
+use mathlib.Core.Path.{_≡_, ap, _∙_}
+use native.Mathlib.Omega.{arith}
+use borrow.Author.Needs.{needs}
+use Prim.Native.Nat.{ℕ, _-_, _≤_}
+use Rattle.tables.specs.declared.Loaded.{Loaded}
+use Rattle.tables.specs.Tables.{filled}
+use Rattle.jobfile.specs.Format.{firstOf}
+use Rattle.jobfile_read.specs.Steps.{withRecord}
+use Rattle.jobfile_read.proofs.Laws.{first-more}
+use Rattle.jobfile_read.proofs.first_records.Statement.{statement}
+use Rattle.jobfile_read.proofs.first_records.Tie as tie
+
+abbrev Inv-loop : tie.InvT-loop
+Inv-loop records n room l₀ i₀ l i = (i ≤ n) × (l ≡ firstOf records i room)
+
+abbrev μ-loop : tie.MeasureT-loop
+μ-loop records n room l₀ i₀ l i = n - i
+
+empty-requires : tie.Need-empty-requires Inv-loop μ-loop
+empty-requires c κs = search needs
+
+loop-holds : tie.Need-loop-holds Inv-loop μ-loop
+unfolding filled
+loop-holds c = (omega arith, c .empty .ensures)
+
+with-record-requires : tie.Need-with-record-requires Inv-loop μ-loop
+with-record-requires c κs = omega arith
+
+add-i : tie.Need-add-i Inv-loop μ-loop
+add-i c = search needs
+
+loop-less : tie.Need-loop-less Inv-loop μ-loop
+loop-less c = search needs
+
+loop-again : tie.Need-loop-again Inv-loop μ-loop
+loop-again c = (omega arith, c .with-record .ensures ∙ ap (λ (x : Loaded). withRecord x (c .before .before .before .before .before .args .records .now) (c .before .before .loop .i)) (c .before .before .loop .inv .1) ∙ first-more _ _ _)
+
+returns : tie.Need-returns Inv-loop μ-loop
+returns c =
+    let a = c .before .before .before .before .args in
+    let e : c .before .loop .i ≡ a .n = omega arith in c .before .loop .inv .1 ∙ ap (λ (k : ℕ). firstOf (a .records .now) k (a .room)) e
+
+pub first-records-spec : {M : Type 1} → statement M
+first-records-spec =
+    tie.close
+    (tie.spec
+    Inv-loop
+    μ-loop
+    empty-requires
+    loop-holds
+    with-record-requires
+    add-i
+    loop-less
+    loop-again
+    returns)

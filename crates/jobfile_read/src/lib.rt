@@ -1,0 +1,182 @@
+// The reader of job files.
+ghost use mathlib.Core.Path.{_≡_};
+ghost use mathlib.Core.List.{[]};
+ghost use Prim.Native.Nat.{_+_, _*_, _≤_, _<_, min};
+ghost use lib.ListN.{length};
+ghost use Rattle.facts.specs.Least.{any};
+ghost use Rattle.tables.specs.Tables.{Tests};
+ghost use Rattle.jobfile.specs.Format.{tooFar, spoilt, firstOf, tableIn};
+ghost use Rattle.jobfile.specs.Calls.{recordChecks, saveChecks, given, taken, nothing, reading};
+ghost use Rattle.jobfile_read.specs.Steps.{withRecord, Asks};
+use bytes_le::number;
+use jobfile::Read;
+use tables::Answer;
+use tables::Ask;
+use tables::Loaded;
+
+// One of the six bytes of record i is not zero.
+fn spoilt(records: &[u8], i: usize) -> bool
+    requires { ⌜ 32 * i + 32 ≤ length (now records) ⌝ }
+    ensures { λ r. ⌜ r ≡ spoilt (now (records .entry)) i ⌝ }
+{
+    number(records, 32 * i + 26, 6) != 0
+}
+
+// The same of any of the first n records.
+fn any_spoilt(records: &[u8], n: usize) -> bool
+    requires { ⌜ 32 * n ≤ length (now records) ⌝ }
+    ensures { λ r. ⌜ r ≡ any (spoilt (now (records .entry))) n ⌝ }
+{
+    for i in 0..n {
+        if spoilt(records, i) {
+            return true;
+        }
+    }
+    false
+}
+
+// A table with no records, as lent.
+fn empty(room: usize) -> Loaded
+    ensures { λ r. ⌜ r ≡ firstOf [] 0 room ⌝ }
+{
+    let words = [0u64; 24];
+    let durations = [0u16; 24];
+    Loaded {
+        conditions: words,
+        additions: words,
+        deletions: words,
+        durations,
+        lent: room,
+    }
+}
+
+// Record i taken into the table.
+fn with_record(l: Loaded, records: &[u8], i: usize) -> Loaded
+    requires { ⌜ (i < 24) × (32 * i + 32 ≤ length (now records)) ⌝ }
+    ensures { λ r. ⌜ r ≡ withRecord l (now (records .entry)) i ⌝ }
+{
+    let at = 32 * i;
+    let mut t = l;
+    t.conditions[i] = number(records, at, 8);
+    t.additions[i] = number(records, at + 8, 8);
+    t.deletions[i] = number(records, at + 16, 8);
+    t.durations[i] = number(records, at + 24, 2) as u16;
+    t
+}
+
+// The first n records.
+fn first_records(records: &[u8], n: usize, room: usize) -> Loaded
+    requires { ⌜ (n ≤ 24) × (32 * n ≤ length (now records)) ⌝ }
+    ensures { λ r. ⌜ r ≡ firstOf (now (records .entry)) n room ⌝ }
+{
+    let mut l = empty(room);
+    for i in 0..n {
+        l = with_record(l, records, i);
+    }
+    l
+}
+
+// The smaller of two numbers.
+fn at_most(n: usize, most: usize) -> usize
+    ensures { λ r. ⌜ r ≡ min n most ⌝ }
+{
+    if n < most { n } else { most }
+}
+
+// The numbers of the trailer.
+fn ask_in(trailer: &[u8]) -> Ask
+    requires { ⌜ length (now trailer) ≡ 24 ⌝ }
+    ensures { λ r. ⌜ Asks (now (trailer .entry)) r ⌝ }
+{
+    Ask {
+        jobs: number(trailer, 18, 1) as usize,
+        atoms: number(trailer, 19, 1) as u8,
+        opening: number(trailer, 0, 8),
+        goals: number(trailer, 8, 8),
+        bound: number(trailer, 16, 2) as u16,
+        set: 0,
+        pairs: 0,
+    }
+}
+
+// The distance is out of range.
+fn too_far(distance: usize, jobs: usize, before: usize) -> bool
+    requires { ⌜ jobs < 256 ⌝ }
+    ensures { λ r. ⌜ Tests (tooFar distance jobs before) ((32 * jobs ≤ distance) × (distance ≤ before)) r ⌝ }
+{
+    distance < 32 * jobs || before < distance
+}
+
+// What is returned on refusal.
+fn nothing(a: Answer) -> Read
+    ensures { λ r. ⌜ r ≡ nothing a ⌝ }
+{
+    let ask = Ask {
+        jobs: 0,
+        atoms: 0,
+        opening: 0,
+        goals: 0,
+        bound: 0,
+        set: 0,
+        pairs: 0,
+    };
+    let table = empty(0);
+    Read {
+        answer: a,
+        ask,
+        table,
+    }
+}
+
+// The records of a save, with its numbers.
+fn read_records(records: &[u8], q: Ask, room: usize) -> Read
+    requires { ⌜ 32 * q .jobs ≤ length (now records) ⌝ }
+    ensures { λ r. ⌜ r ≡ given (recordChecks (now (records .entry)) q room) q (tableIn (now (records .entry)) (q .jobs) room) ⌝ }
+{
+    let jobs = q.jobs;
+    if any_spoilt(records, jobs) {
+        return nothing(tables::refuse(2, 0, 0));
+    }
+    let l = first_records(records, at_most(jobs, 24), room);
+    let a = jobfile::problem_fault(l, q, false);
+    if a.number != 0 {
+        return nothing(a);
+    }
+    Read {
+        answer: a,
+        ask: q,
+        table: l,
+    }
+}
+
+// The last save of a file: the trailer is the last 24 bytes, and its distance leads back to the records.
+fn read_save(file: &[u8], room: usize) -> Read
+    requires { ⌜ 24 ≤ length (now file) ⌝ }
+    ensures { λ r. ⌜ r ≡ taken (saveChecks (now (file .entry)) room) (now (file .entry)) room ⌝ }
+{
+    let n = file.len();
+    let start = n - 24;
+    let trailer = &file[start..];
+    let q = ask_in(trailer);
+    let distance = number(trailer, 20, 4) as usize;
+    let jobs = q.jobs;
+    if too_far(distance, jobs, start) {
+        return nothing(tables::refuse(2, 0, 0));
+    }
+    let first = start - distance;
+    let end = first + 32 * jobs;
+    read_records(&file[first..end], q, room)
+}
+
+// Reads a file for a caller that lends room for so many records.
+pub fn read_file(file: &[u8], room: usize) -> Read
+    ensures { λ r. ⌜ r ≡ reading (now (file .entry)) room ⌝ }
+{
+    if 65536 < file.len() {
+        return nothing(tables::refuse(1, 0, 0));
+    }
+    if file.len() < 24 {
+        return nothing(tables::refuse(2, 0, 0));
+    }
+    read_save(file, room)
+}

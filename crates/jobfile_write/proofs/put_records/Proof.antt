@@ -1,0 +1,82 @@
+use mathlib.Core.Path.{_≡_, refl, sym, ap, _∙_}
+use native.Mathlib.Omega.{arith}
+use borrow.Author.Needs.{needs}
+use Prim.Native.Nat.{ℕ, _+_, _-_, _*_, _≤_}
+use native.Mathlib.Numerals.{add-one}
+use lib.ListN.{length}
+use Rattle.bytes_le.specs.Little.{over}
+use Rattle.bytes_le.proofs.Laid.{length-over, over-then, tail-back}
+use Rattle.jobfile.specs.Format.{recordOf, recordsOf}
+use Rattle.jobfile.proofs.Saves.{length-record, length-records}
+use Rattle.jobfile_write.proofs.put_records.Statement.{statement}
+use Rattle.jobfile_write.proofs.put_records.Tie as tie
+
+abbrev Inv-loop : tie.InvT-loop
+Inv-loop l n out₀ i₀ out i = (i ≤ n) × (out ≡ over (recordsOf l i) out₀) × (length out ≡ length out₀)
+
+abbrev μ-loop : tie.MeasureT-loop
+μ-loop l n out₀ i₀ out i = n - i
+
+loop-holds : tie.Need-loop-holds Inv-loop μ-loop
+unfolding recordsOf
+loop-holds c = (omega arith, refl, refl)
+
+mul-at : tie.Need-mul-at Inv-loop μ-loop
+mul-at c = search needs
+
+sub-put-record : tie.Need-sub-put-record Inv-loop μ-loop
+sub-put-record c = search needs
+
+part-put-record-start : tie.Need-part-put-record-start Inv-loop μ-loop
+part-put-record-start c = search needs
+
+part-put-record-end : tie.Need-part-put-record-end Inv-loop μ-loop
+part-put-record-end c = search needs
+
+put-record-requires : tie.Need-put-record-requires Inv-loop μ-loop
+put-record-requires c κs = search needs
+
+add-i : tie.Need-add-i Inv-loop μ-loop
+add-i c = search needs
+
+loop-less : tie.Need-loop-less Inv-loop μ-loop
+loop-less c = search needs
+
+loop-again : tie.Need-loop-again Inv-loop μ-loop
+unfolding recordsOf
+loop-again c =
+    let a = c .before .before .before .before .before .before .before .args in
+    let t = c .before .before .before .before .before .loop in
+    let xs = a .out .now in
+    let e =
+    over-then (recordsOf (a .l) (t .i)) (recordOf (a .l) (t .i)) xs (32 * t .i) (sym (length-records (a .l) (t .i))) (t .inv .1)
+    (tail-back (recordOf (a .l) (t .i)) (32 * t .i) (t .out) (c .before .before .put-record .ensures) (omega (arith, length-record (a .l) (t .i))))
+    ∙ ap (λ (k : ℕ). over (recordsOf (a .l) k) xs) (sym (add-one (t .i))) in
+    (omega arith, e, ap length e ∙ length-over (recordsOf (a .l) (t .i + 1)) xs (omega (arith, length-records (a .l) (t .i + 1))))
+
+same-length : tie.Need-same-length Inv-loop μ-loop
+same-length c = c .before .loop .inv .2
+
+returns : tie.Need-returns Inv-loop μ-loop
+returns c =
+    let a = c .before .before .before .args in
+    let e : c .before .loop .i ≡ a .n = omega arith in
+    c .before .loop .inv .1 ∙ ap (λ (k : ℕ). over (recordsOf (a .l) k) (a .out .now)) e
+
+pub put-records-spec : {M : Type 1} → statement M
+put-records-spec =
+    tie.close
+    (tie.spec
+    Inv-loop
+    μ-loop
+    loop-holds
+    mul-at
+    sub-put-record
+    part-put-record-start
+    part-put-record-end
+    put-record-requires
+    add-i
+    loop-less
+    loop-again
+    same-length
+    returns)

@@ -1,0 +1,33 @@
+use Rattle.jobfile.specs.Format.{lengthAfter}
+use mathlib.Core.Path.{sym}
+use native.Mathlib.Omega.{arith}
+use borrow.Author.Tests.{lt-ltb}
+use mathlib.Core.Bool.{true≢false}
+use borrow.Author.Needs.{needs}
+use Rattle.jobfile_write.proofs.too_long.Statement.{statement}
+use Rattle.jobfile_write.proofs.too_long.Tie as tie
+
+returns : tie.Need-returns
+returns c =
+    let a = c .before .args in
+    record { says = sym (lt-ltb 65536 (lengthAfter (a .used) (a .jobs)) (omega arith)); fails = λ e. absurd (true≢false e) }
+
+returns-2 : tie.Need-returns-2
+returns-2 c =
+    let a = c .before .before .args in
+    record { says = sym (lt-ltb 65536 (lengthAfter (a .used) (a .jobs)) (omega arith)); fails = λ e. absurd (true≢false e) }
+
+mul-result : tie.Need-mul-result
+mul-result c = search needs
+
+add-result : tie.Need-add-result
+add-result c = search needs
+
+add-result-2 : tie.Need-add-result-2
+add-result-2 c = search needs
+
+returns-3 : tie.Need-returns-3
+returns-3 c = search needs
+
+pub too-long-spec : {M : Type 1} → statement M
+too-long-spec = tie.close (tie.spec returns returns-2 mul-result add-result add-result-2 returns-3)
