@@ -1,0 +1,4 @@
+pub mod Listed
+pub mod SamePlan
+pub mod Foreman
+pub mod Useless

@@ -1,0 +1,134 @@
+-- Useless planners break the promises: one that always says 10, that always gives the empty plan, that writes nothing, and one that
+-- names a least bound without having tried those below.
+-- Assumes nothing.
+use mathlib.Core.Path.{_≡_, refl, sym, ap, _∙_}
+use mathlib.Core.Bool.{Bool, false}
+use mathlib.Core.List.{List, [], _∷_}
+use Prim.Native.Nat.{ℕ, zero, suc, _^_, _≤_, _<_}
+use native.Mathlib.Omega.{arith}
+use borrow.Author.Tests.{le-ltb}
+use lib.Dec.{ltb}
+use lib.ListN.{length, getD, replicate}
+use Rattle.facts.specs.Facts.{has, after}
+use Rattle.facts.specs.Least.{least, further, any}
+use Rattle.rules.specs.Refusals.{Verdict, accepted, refused, refuseIf, refuseAt}
+use Rattle.rules.specs.Table.{Problem, InOrder, between, strays, jobStrays, undoes, jobChecks, tableChecks, boundCheck}
+use Rattle.rules.specs.Plans.{starts, inPlan, spoils, interfere, ends, afterIf, finishes, holds, Valid}
+use Rattle.rules.specs.Verdicts.{late, overlap, clashes, unready, missing, planChecks}
+use Rattle.rules.proofs.Judged.{judged}
+use Rattle.tables.specs.declared.Answer.{Answer}
+use Rattle.tables.specs.Tables.{problem, callChecks}
+use Rattle.tables.proofs.Lent.{filled-at}
+use Rattle.verdict.proofs.Accepted.{Words, ordered}
+use Rattle.bindings.proofs.Useless.{jobsU, askU, plan3}
+use Rattle.planning.specs.Planning.{planningChecks, PlansWithin, BoundsWithin}
+use Rattle.planning.proofs.Laws.{row-of}
+use Rattle.planning.proofs.Found.{plan-found, plan-none, bound-found}
+use Rattle.demands.proofs.SamePlan.{valid-same}
+
+four-small : (a b c d : ℕ) → a < 32 → b < 32 → c < 32 → d < 32 → (i : ℕ) → getD (a ∷ b ∷ c ∷ d ∷ replicate 20 0) i 0 < 2 ^ 64
+four-small a b c d h k l m zero = omega arith
+four-small a b c d h k l m (suc zero) = omega arith
+four-small a b c d h k l m (suc (suc zero)) = omega arith
+four-small a b c d h k l m (suc (suc (suc zero))) = omega arith
+four-small a b c d h k l m (suc (suc (suc (suc i)))) = omega (arith, row-of 20 i 0 (λ n. refl))
+
+-- the jobs U are in order
+words : (goals bound : ℕ) → goals < 32 → Words jobsU (askU goals bound)
+words goals bound h = record {
+  conditions = four-small 1 2 2 2 (omega arith) (omega arith) (omega arith) (omega arith);
+  deletions = four-small 1 0 0 4 (omega arith) (omega arith) (omega arith) (omega arith);
+  goals = omega arith;
+}
+
+-- goals {2, 3} within 12, and {2, 3, 4} within 14
+abbrev P1 : Problem
+P1 = problem jobsU (askU 12 12)
+
+abbrev P3 : Problem
+P3 = problem jobsU (askU 28 14)
+
+table1 : tableChecks P1 accepted ≡ accepted
+unfolding tableChecks jobChecks between strays jobStrays undoes refuseAt refuseIf has any least further
+table1 = refl
+
+table3 : tableChecks P3 accepted ≡ accepted
+unfolding tableChecks jobChecks between strays jobStrays undoes refuseAt refuseIf has any least further
+table3 = refl
+
+order1 : InOrder P1
+order1 = ordered jobsU (askU 12 12) (words 12 12 (omega arith)) table1
+
+order3 : InOrder P3
+order3 = ordered jobsU (askU 28 14) (words 28 14 (omega arith)) table3
+
+-- ── plans that are valid, and plans that are not ──
+
+p1 : planChecks P1 12 (starts (0 ∷ 4 ∷ 4 ∷ 65535 ∷ [])) accepted ≡ accepted
+unfolding planChecks refuseAt refuseIf late clashes overlap unready missing interfere spoils holds finishes afterIf ends inPlan after has any least further
+p1 = refl
+
+valid1 : Valid P1 12 (starts (0 ∷ 4 ∷ 4 ∷ 65535 ∷ []))
+valid1 = judged P1 order1 12 (starts (0 ∷ 4 ∷ 4 ∷ 65535 ∷ [])) (λ i k. omega arith) .0 p1
+
+p3 : planChecks P3 12 (starts plan3) accepted ≡ accepted
+unfolding planChecks refuseAt refuseIf late clashes overlap unready missing interfere spoils holds finishes afterIf ends inPlan after has any least further
+p3 = refl
+
+valid3 : Valid P3 12 (starts plan3)
+valid3 = judged P3 order3 12 (starts plan3) (λ i k. omega arith) .0 p3
+
+-- no job at all
+abbrev pub empty : List ℕ
+empty = 65535 ∷ 65535 ∷ 65535 ∷ 65535 ∷ []
+
+-- memory as a caller may lend it
+abbrev pub untouched : List ℕ
+untouched = 0 ∷ 0 ∷ 0 ∷ 0 ∷ []
+
+empty-fails : planChecks P1 12 (starts empty) accepted ≡ refused 14 2
+unfolding planChecks refuseAt refuseIf late clashes overlap unready missing interfere spoils holds finishes afterIf ends inPlan after has any least further
+empty-fails = refl
+
+untouched-fails : planChecks P1 12 (starts untouched) accepted ≡ refused 12 1
+unfolding planChecks refuseAt refuseIf late clashes overlap unready missing interfere spoils holds finishes afterIf ends inPlan after has any least further
+untouched-fails = refl
+
+-- ── the promise at P1 ──
+
+passes1 : callChecks false jobsU (askU 12 12) (boundCheck 12 accepted) ≡ accepted
+unfolding boundCheck tableChecks jobChecks between strays jobStrays undoes refuseAt refuseIf has any least further
+passes1 = refl
+
+module _ (xs ys : List ℕ) (r : Answer) (room : 4 ≤ length xs) (p : PlansWithin jobsU (askU 12 12) xs r ys) where
+  -- always 10
+  pub always-10 : r .number ≡ 10 → ⊥
+  always-10 z = plan-none jobsU (askU 12 12) xs r ys
+      (ap (λ (b : Bool). callChecks b jobsU (askU 12 12) (boundCheck 12 accepted)) (le-ltb (length xs) 4 room) ∙ passes1) p z _ valid1
+
+  -- what is given is valid
+  given : (zs : List ℕ) → r .number ≡ 0 → ((i : ℕ) → i < 4 → getD ys i 0 ≡ getD zs i 0) → Valid P1 12 (starts zs)
+  given zs z e =
+      let f = plan-found jobsU (askU 12 12) xs r ys p z in
+      valid-same P1 (f .s) (starts zs)
+      (λ i h. sym (filled-at (f .s) 4 xs i 0 h (omega arith)) ∙ sym (ap (λ (l : List ℕ). getD l i 0) (f .table)) ∙ e i h) 12 (f .ok .ok)
+
+  -- so a plan that the checks refuse is not given
+  not-given : (zs : List ℕ) (n k : ℕ) → 0 < n → planChecks P1 12 (starts zs) accepted ≡ refused n k → r .number ≡ 0 → ((i : ℕ) → i < 4 → getD ys i 0 ≡ getD zs i 0) → ⊥
+  not-given zs n k l h z e =
+      let o : n ≡ 0 = ap (λ (v : Verdict). v .number) (sym h ∙ judged P1 order1 12 (starts zs) (λ i m. omega arith) .1 (given zs z e)) in
+      omega arith
+
+  -- always the empty plan
+  pub always-empty : r .number ≡ 0 → ((i : ℕ) → i < 4 → getD ys i 0 ≡ getD empty i 0) → ⊥
+  always-empty = not-given empty 14 2 (omega arith) empty-fails
+
+  -- returns and writes nothing
+  pub writes-nothing : r .number ≡ 0 → ys ≡ xs → ((i : ℕ) → i < 4 → getD xs i 0 ≡ getD untouched i 0) → ⊥
+  writes-nothing z e h = not-given untouched 12 1 (omega arith) untouched-fails z (λ i l. ap (λ (x : List ℕ). getD x i 0) e ∙ h i l)
+
+-- ── the promise at P3 ──
+
+-- a bound over 12 named as the least, those below it only said to have been tried
+pub only-claimed : (xs ys : List ℕ) (r : Answer) → BoundsWithin jobsU (askU 28 14) xs r ys → r .number ≡ 0 → 12 < r .value → ⊥
+only-claimed xs ys r p z l = bound-found jobsU (askU 28 14) xs r ys p z .ok .none 12 (starts plan3) l valid3
