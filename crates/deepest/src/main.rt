@@ -1,4 +1,4 @@
-// The deepest search known: 24 jobs that each add a goal, of which every second deletes the fact that the others add besides.
+// The deepest search known: 24 jobs that each add a goal and a mark and delete the marks of all others, so that all 276 pairs interfere.
 ghost use Prim.Native.Nat.{_<_};
 use libc::STDOUT_FILENO;
 use tables::Answer;
@@ -17,23 +17,25 @@ fn show_all(numbers: [u16; 24]) {
     io::write_all(STDOUT_FILENO, b"\n");
 }
 
-// The facts that job i adds: its goal, and fact 24 if its number is odd.
+// The mark of job i.
+fn mark(i: usize) -> u64
+    requires { ⌜ i < 24 ⌝ }
+{
+    16777216u64 << i
+}
+
+// The facts that job i adds: its goal and its mark.
 fn adds(i: usize) -> u64
     requires { ⌜ i < 24 ⌝ }
 {
-    let goal = 1u64 << i;
-    if i % 2 == 1 {
-        return goal | (1u64 << 24);
-    }
-    goal
+    (1u64 << i) | mark(i)
 }
 
-// Fact 24, if the job's number is even.
-fn deletes(i: usize) -> u64 {
-    if i % 2 == 0 {
-        return 1u64 << 24;
-    }
-    0
+// The facts that it deletes: the other marks.
+fn deletes(i: usize) -> u64
+    requires { ⌜ i < 24 ⌝ }
+{
+    281474959933440 ^ mark(i)
 }
 
 fn all_adds() -> [u64; 24] {
@@ -66,7 +68,7 @@ fn main() {
     };
     let q = Ask {
         jobs: 24,
-        atoms: 25,
+        atoms: 48,
         opening: 0,
         goals: 16777215,
         bound: 2880,

@@ -6,12 +6,14 @@ ghost use Rattle.facts.specs.Facts.{Decides};
 ghost use Rattle.tables.specs.Tables.{filled};
 ghost use Rattle.entries.specs.Entries.{entry, Same};
 
+// The same number, wide enough for sums.
 pub fn wide(x: u16) -> u32
     ensures { λ r. ⌜ (r ≡ x) × (r < 65536) ⌝ }
 {
     x as u32
 }
 
+// The greater of two numbers.
 pub fn higher(a: u16, b: u16) -> u16
     ensures { λ r. ⌜ r ≡ max a b ⌝ }
 {

@@ -37,6 +37,7 @@ pub fn late_for(s: State, b: usize, d: usize) -> bool
     orders::has(w, b)
 }
 
+// The consumer b is surely over before d starts; End never is.
 pub fn done_for(s: State, b: usize, d: usize) -> bool
     requires { ⌜ (b ≤ 24) × (d < 24) ⌝ }
     ensures { λ r. ⌜ r ≡ done (view s) (who b) d ⌝ }
@@ -48,6 +49,7 @@ pub fn done_for(s: State, b: usize, d: usize) -> bool
     orders::has(w, b)
 }
 
+// Job a is surely not over before the consumer b.
 pub fn useless_for(s: State, a: usize, b: usize) -> bool
     requires { ⌜ (b ≤ 24) × (a < 24) ⌝ }
     ensures { λ r. ⌜ r ≡ useless (view s) a (who b) ⌝ }
@@ -59,6 +61,7 @@ pub fn useless_for(s: State, a: usize, b: usize) -> bool
     orders::has(w, a)
 }
 
+// Job a is surely over before the consumer b.
 pub fn serves_for(s: State, a: usize, b: usize) -> bool
     requires { ⌜ (b ≤ 24) × (a < 24) ⌝ }
     ensures { λ r. ⌜ r ≡ serves (view s) a (who b) ⌝ }
@@ -84,6 +87,7 @@ pub fn killer(s: State, b: usize, kills: u32, d: usize) -> bool
     orders::has(s.inside, d)
 }
 
+// Job d deletes the fact, and the consumer is surely not over before it.
 pub fn danger_at(s: State, b: usize, kills: u32, d: usize) -> bool
     requires { ⌜ (b ≤ 24) × (d < 24) ⌝ }
     ensures { λ r. ⌜ ((P : Search) (p : ℕ) → Cols (Deletes P p) kills 24 → Decides r (Danger P s p b d)) ⌝ }
@@ -94,6 +98,7 @@ pub fn danger_at(s: State, b: usize, kills: u32, d: usize) -> bool
     late_for(s, b, d)
 }
 
+// Job d deletes the fact, and the consumer is not surely over before it.
 pub fn unsettled_at(s: State, b: usize, kills: u32, d: usize) -> bool
     requires { ⌜ (b ≤ 24) × (d < 24) ⌝ }
     ensures { λ r. ⌜ ((P : Search) (p : ℕ) → Cols (Deletes P p) kills 24 → Decides r (Unsettled P s p b d)) ⌝ }
@@ -104,6 +109,7 @@ pub fn unsettled_at(s: State, b: usize, kills: u32, d: usize) -> bool
     !done_for(s, b, d)
 }
 
+// All such jobs of the first kind.
 pub fn dangers(s: State, b: usize, kills: u32) -> u32
     requires { ⌜ b ≤ 24 ⌝ }
     ensures { λ r. ⌜ ((P : Search) (p : ℕ) → Cols (Deletes P p) kills 24 → Cols (Danger P s p b) r 24) ⌝ }
@@ -116,6 +122,7 @@ pub fn dangers(s: State, b: usize, kills: u32) -> u32
     w
 }
 
+// All such jobs of the second kind.
 pub fn unsettled(s: State, b: usize, kills: u32) -> u32
     requires { ⌜ b ≤ 24 ⌝ }
     ensures { λ r. ⌜ ((P : Search) (p : ℕ) → Cols (Deletes P p) kills 24 → Cols (Unsettled P s p b) r 24) ⌝ }
@@ -161,6 +168,7 @@ pub fn lack(w: u32, v: u32) -> usize
     24
 }
 
+// Bit d is in w and not in v.
 fn in_not(w: u32, v: u32, d: usize) -> bool
     requires { ⌜ d < 24 ⌝ }
     ensures { λ r. ⌜ Decides r (T (has w d) × (T (has v d) → ⊥)) ⌝ }
@@ -349,6 +357,7 @@ pub fn better(
     sooner(best, d)
 }
 
+// The candidate to be tried first, with what it wants.
 pub fn best_job(s: State, b: usize, adders: u32, dang: u32, rest: u32, steps: &[u16]) -> Choice
     requires { ⌜ (b ≤ 24) × (length (now steps) ≡ 24) ⌝ }
     ensures { λ r. ⌜ ((P : Search) (p : ℕ) → Scene P s p b adders dang rest → Picks s (SomeSafe P s p b) (NoneBelow P s p b 24) r) ⌝ }
@@ -427,6 +436,7 @@ pub fn condition(
     start_choice(s, b, rest)
 }
 
+// The same, if p is a fact of the word.
 pub fn condition_at(
     s: State,
     b: usize,
@@ -569,6 +579,7 @@ pub fn consumer_at(
     conditions(s, b, conds[b], ask.opening, adders, killers, steps)
 }
 
+// What all consumers want.
 pub fn consumers(
     s: State,
     ask: Ask,
@@ -593,6 +604,7 @@ pub fn consumers(
     best
 }
 
+// Two jobs, if they interfere.
 pub fn mutex_hit(s: State, a: usize, b: usize, hits: u32) -> Choice
     requires { ⌜ (a < 24) × (b < 24) ⌝ }
     ensures { λ r. ⌜ ((P : Search) → InOrder (P .problem) → Hits a hits P → Picks s (T (has hits b) → Ordered s a b) (Dead P (view s)) r) ⌝ }
@@ -608,6 +620,7 @@ pub fn mutex_hit(s: State, a: usize, b: usize, hits: u32) -> Choice
     mutex_at(s, a, b)
 }
 
+// All jobs that interfere with a.
 pub fn mutex_row(s: State, a: usize, hits: u32) -> Choice
     requires { ⌜ a < 24 ⌝ }
     ensures { λ r. ⌜ ((P : Search) → InOrder (P .problem) → Hits a hits P → Picks s (RowOrdered s a hits 24) (Dead P (view s)) r) ⌝ }
@@ -626,6 +639,7 @@ pub fn mutex_row(s: State, a: usize, hits: u32) -> Choice
     }
 }
 
+// All jobs that interfere.
 pub fn mutexes(s: State, hits: &[u32]) -> Choice
     requires { ⌜ length (now hits) ≡ 24 ⌝ }
     ensures { λ r. ⌜ ((P : Search) → InOrder (P .problem) → AllHits (now (hits .entry)) P → Picks s (AllOrdered s (now (hits .entry)) 24) (Dead P (view s)) r) ⌝ }

@@ -27,6 +27,7 @@ pub fn has(w: u32, j: usize) -> bool
     (w >> j) % 2 == 1
 }
 
+// w with bit j set.
 pub fn with(w: u32, j: usize) -> u32
     requires { ⌜ j < 24 ⌝ }
     ensures { λ r. ⌜ r ≡ bitOr w (2 ^ j) ⌝ }
@@ -45,12 +46,14 @@ pub fn with_if(w: u32, j: usize, flag: bool) -> u32
     w
 }
 
+// The same number, wide enough for sums.
 pub fn wide(x: u16) -> u32
     ensures { λ r. ⌜ (r ≡ x) × (r < 65536) ⌝ }
 {
     x as u32
 }
 
+// Job j is in.
 pub fn put_inside(s: State, j: usize) -> State
     requires { ⌜ j < 24 ⌝ }
     ensures { λ r. ⌜ PutInside s j r ⌝ }
@@ -60,6 +63,7 @@ pub fn put_inside(s: State, j: usize) -> State
     t
 }
 
+// Job j is out.
 pub fn put_barred(s: State, j: usize) -> State
     requires { ⌜ j < 24 ⌝ }
     ensures { λ r. ⌜ PutBarred s j r ⌝ }
@@ -69,6 +73,7 @@ pub fn put_barred(s: State, j: usize) -> State
     t
 }
 
+// a is over before b.
 pub fn put_sure(s: State, a: usize, b: usize) -> State
     requires { ⌜ (a < 24) × (b < 24) ⌝ }
     ensures { λ r. ⌜ PutSure s a b r ⌝ }
@@ -79,6 +84,7 @@ pub fn put_sure(s: State, a: usize, b: usize) -> State
     t
 }
 
+// a is not over before b.
 pub fn put_never(s: State, a: usize, b: usize) -> State
     requires { ⌜ (a < 24) × (b < 24) ⌝ }
     ensures { λ r. ⌜ PutNever s a b r ⌝ }
@@ -89,6 +95,7 @@ pub fn put_never(s: State, a: usize, b: usize) -> State
     t
 }
 
+// Job j starts at x or later.
 pub fn put_lo(s: State, j: usize, x: u16) -> State
     requires { ⌜ j < 24 ⌝ }
     ensures { λ r. ⌜ PutLo s j x r ⌝ }
@@ -98,6 +105,7 @@ pub fn put_lo(s: State, j: usize, x: u16) -> State
     t
 }
 
+// Job j starts at x or earlier.
 pub fn put_hi(s: State, j: usize, x: u16) -> State
     requires { ⌜ j < 24 ⌝ }
     ensures { λ r. ⌜ PutHi s j x r ⌝ }
@@ -230,6 +238,7 @@ pub fn pairs_at(s: State, b: usize, steps: &[u16], hits: &[u32]) -> State
     t
 }
 
+// All pairs of jobs.
 pub fn pairs(s: State, steps: &[u16], hits: &[u32]) -> State
     requires { ⌜ (length (now steps) ≡ 24) × (length (now hits) ≡ 24) ⌝ }
     ensures { λ r. ⌜ Prunes (Tabled (now (steps .entry)) (now (hits .entry))) s r ⌝ }

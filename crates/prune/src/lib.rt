@@ -62,6 +62,7 @@ pub fn spare(s: State, b: usize, a: usize, d: usize) -> State
     orders::put_sure(s, b, d)
 }
 
+// The same, if d is another job that deletes the fact.
 pub fn spare_if(s: State, b: usize, a: usize, kills: u32, d: usize) -> State
     requires { ⌜ (b ≤ 24) × ((a < 24) × (d < 24)) ⌝ }
     ensures { λ r. ⌜ SparesAll s b a kills r ⌝ }
@@ -75,6 +76,7 @@ pub fn spare_if(s: State, b: usize, a: usize, kills: u32, d: usize) -> State
     spare(s, b, a, d)
 }
 
+// The same for all jobs that delete it.
 pub fn spare_all(s: State, b: usize, a: usize, kills: u32) -> State
     requires { ⌜ (b ≤ 24) × (a < 24) ⌝ }
     ensures { λ r. ⌜ SparesAll s b a kills r ⌝ }
@@ -99,6 +101,7 @@ pub fn take_only(s: State, b: usize, a: usize, kills: u32) -> State
     spare_all(u, b, a, kills)
 }
 
+// Start alone gives the fact to b: a job d that deletes it comes after b, or is out for End.
 pub fn start_if(s: State, b: usize, kills: u32, d: usize) -> State
     requires { ⌜ (b ≤ 24) × (d < 24) ⌝ }
     ensures { λ r. ⌜ StartAll s b kills r ⌝ }
@@ -115,6 +118,7 @@ pub fn start_if(s: State, b: usize, kills: u32, d: usize) -> State
     orders::put_sure(s, b, d)
 }
 
+// The same for all jobs that delete it.
 pub fn start_all(s: State, b: usize, kills: u32) -> State
     requires { ⌜ b ≤ 24 ⌝ }
     ensures { λ r. ⌜ StartAll s b kills r ⌝ }
@@ -126,6 +130,7 @@ pub fn start_all(s: State, b: usize, kills: u32) -> State
     t
 }
 
+// The one bit of w, or 24 if there is none or another.
 pub fn single(w: u32) -> usize
     ensures { λ r. ⌜ Single w r ⌝ }
 {
@@ -141,6 +146,7 @@ pub fn single(w: u32) -> usize
     24
 }
 
+// The smaller of two numbers, if the second counts.
 pub fn min_if(m: u32, x: u32, hit: bool) -> u32
     ensures { λ r. ⌜ MinIf m x r hit ⌝ }
 {
@@ -153,6 +159,7 @@ pub fn min_if(m: u32, x: u32, hit: bool) -> u32
     m
 }
 
+// Where job a of this length finishes at the earliest.
 pub fn lo_plus(s: State, a: usize, step: u16) -> u32
     requires { ⌜ a < 24 ⌝ }
     ensures { λ r. ⌜ r ≡ getD (s .lo) a 0 + step ⌝ }
@@ -160,6 +167,7 @@ pub fn lo_plus(s: State, a: usize, step: u16) -> u32
     orders::wide(s.lo[a]) + orders::wide(step)
 }
 
+// Where the first of the candidates finishes at the earliest.
 pub fn least_of(s: State, w: u32, steps: &[u16]) -> u32
     requires { ⌜ length (now steps) ≡ 24 ⌝ }
     ensures { λ r. ⌜ LeastOf s (now (steps .entry)) w 24 r ⌝ }
@@ -173,6 +181,7 @@ pub fn least_of(s: State, w: u32, steps: &[u16]) -> u32
     m
 }
 
+// Job b starts at x or later, or is out.
 pub fn wait_for(s: State, b: usize, x: u32) -> State
     requires { ⌜ b < 24 ⌝ }
     ensures { λ r. ⌜ ((P : Search) → Low P (view s) b x → Keeps P (view s) (view r)) ⌝ }
@@ -186,6 +195,7 @@ pub fn wait_for(s: State, b: usize, x: u32) -> State
     orders::put_lo(s, b, x as u16)
 }
 
+// The consumer b waits for the first of its candidates.
 pub fn wait(s: State, b: usize, w: u32, steps: &[u16]) -> State
     requires { ⌜ (b ≤ 24) × (length (now steps) ≡ 24) ⌝ }
     ensures { λ r. ⌜ ((P : Search) (p kills : ℕ) → Told P s p b kills w → AllTakes (now (steps .entry)) P → (MayStart P (view s) p (who b) → ⊥) → Keeps P (view s) (view r)) ⌝ }
@@ -197,6 +207,7 @@ pub fn wait(s: State, b: usize, w: u32, steps: &[u16]) -> State
     wait_for(s, b, x)
 }
 
+// The consumer b is surely there.
 pub fn there_for(s: State, b: usize) -> bool
     requires { ⌜ b ≤ 24 ⌝ }
     ensures { λ r. ⌜ r ≡ there (view s) (who b) ⌝ }
@@ -207,6 +218,7 @@ pub fn there_for(s: State, b: usize) -> bool
     orders::has(s.inside, b)
 }
 
+// The rules on candidates where Start gives no support.
 pub fn without_start(s: State, b: usize, w: u32, kills: u32, steps: &[u16]) -> State
     requires { ⌜ (b ≤ 24) × (length (now steps) ≡ 24) ⌝ }
     ensures { λ r. ⌜ ((P : Search) (p : ℕ) → Told P s p b kills w → AllTakes (now (steps .entry)) P → (MayStart P (view s) p (who b) → ⊥) → Keeps P (view s) (view r)) ⌝ }
@@ -225,6 +237,7 @@ pub fn without_start(s: State, b: usize, w: u32, kills: u32, steps: &[u16]) -> S
     take_only(t, b, a, kills)
 }
 
+// The rule on Start where no job is a candidate.
 pub fn with_start(s: State, b: usize, w: u32, kills: u32) -> State
     requires { ⌜ b ≤ 24 ⌝ }
     ensures { λ r. ⌜ ((P : Search) (p : ℕ) → Told P s p b kills w → Keeps P (view s) (view r)) ⌝ }
@@ -238,6 +251,7 @@ pub fn with_start(s: State, b: usize, w: u32, kills: u32) -> State
     start_all(s, b, kills)
 }
 
+// The rules on supports for the fact p of the consumer b.
 pub fn condition_rule(
     s: State,
     b: usize,
@@ -262,6 +276,7 @@ pub fn condition_rule(
     with_start(s, b, w, kills)
 }
 
+// The same, if p is a fact of the word.
 pub fn condition_if(
     s: State,
     b: usize,
@@ -281,6 +296,7 @@ pub fn condition_if(
     condition_rule(s, b, p, opening, adders, kills, steps)
 }
 
+// The same for all facts of the word.
 pub fn conditions_rule(
     s: State,
     b: usize,
@@ -300,6 +316,7 @@ pub fn conditions_rule(
     t
 }
 
+// The same for the conditions of a job, or the goals.
 pub fn consumer_rule(
     s: State,
     b: usize,
@@ -318,6 +335,7 @@ pub fn consumer_rule(
     conditions_rule(s, b, conds[b], ask.opening, adders, killers, steps)
 }
 
+// The rules on supports for all consumers.
 pub fn supports_rule(
     s: State,
     ask: flaws::Ask,
@@ -352,6 +370,7 @@ fn same_row(s: State, t: State, i: usize) -> bool
     s.hi[i] == t.hi[i]
 }
 
+// All rows of both states are the same.
 fn same_rows(s: State, t: State) -> bool {
     for i in 0..24 {
         if !same_row(s, t, i) {

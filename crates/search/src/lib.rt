@@ -21,6 +21,7 @@ pub struct Answer {
     pub starts: [u16; 24],
 }
 
+// The first repair: the job is in.
 pub fn take_job(s: State, x: usize) -> State
     requires { ⌜ FreeJob s x ⌝ }
     ensures { λ r. ⌜ Tries (IsIn x) s r ⌝ }
@@ -28,6 +29,7 @@ pub fn take_job(s: State, x: usize) -> State
     orders::put_inside(s, x)
 }
 
+// The second repair: the job is out.
 pub fn drop_job(s: State, x: usize) -> State
     requires { ⌜ FreeJob s x ⌝ }
     ensures { λ r. ⌜ Tries (IsOut x) s r ⌝ }
@@ -35,6 +37,7 @@ pub fn drop_job(s: State, x: usize) -> State
     orders::put_barred(s, x)
 }
 
+// The first repair: x is over before y.
 pub fn take_pair(s: State, x: usize, y: usize) -> State
     requires { ⌜ FreePair s x y ⌝ }
     ensures { λ r. ⌜ Tries (Before x y) s r ⌝ }
@@ -43,6 +46,7 @@ pub fn take_pair(s: State, x: usize, y: usize) -> State
     orders::put_sure(t, x, y)
 }
 
+// The second repair: x is not over before y.
 pub fn drop_pair(s: State, x: usize, y: usize) -> State
     requires { ⌜ FreePair s x y ⌝ }
     ensures { λ r. ⌜ Tries (NotBefore x y) s r ⌝ }
@@ -50,6 +54,7 @@ pub fn drop_pair(s: State, x: usize, y: usize) -> State
     orders::put_never(s, x, y)
 }
 
+// a is over before b, both are in, and b may start too early for that.
 pub fn violated_at(s: State, a: usize, b: usize, step: u16) -> bool
     requires { ⌜ (a < 24) × (b < 24) ⌝ }
     ensures { λ r. ⌜ Decides r (Violated s a b step) ⌝ }
@@ -69,6 +74,7 @@ pub fn violated_at(s: State, a: usize, b: usize, step: u16) -> bool
     y < x
 }
 
+// Such a job a for b.
 pub fn violated_row(s: State, b: usize, steps: &[u16]) -> Choice
     requires { ⌜ (b < 24) × (length (now steps) ≡ 24) ⌝ }
     ensures { λ r. ⌜ Finds s (now (steps .entry)) (RowSteady s (now (steps .entry)) b 24) r ⌝ }
@@ -91,6 +97,7 @@ pub fn violated_row(s: State, b: usize, steps: &[u16]) -> Choice
     }
 }
 
+// Such a pair of jobs.
 pub fn violated(s: State, steps: &[u16]) -> Choice
     requires { ⌜ length (now steps) ≡ 24 ⌝ }
     ensures { λ r. ⌜ Finds s (now (steps .entry)) (Steady s (now (steps .entry)) 24) r ⌝ }
@@ -109,6 +116,7 @@ pub fn violated(s: State, steps: &[u16]) -> Choice
     }
 }
 
+// b starts when a is over, if it still may.
 pub fn raise(s: State, a: usize, b: usize, step: u16) -> Settled
     requires { ⌜ (a < 24) × ((b < 24) × Violated s a b step) ⌝ }
     ensures { λ r. ⌜ Raised s a step r ⌝ }
@@ -149,6 +157,7 @@ pub fn settle(s: State, steps: &[u16]) -> Settled
     }
 }
 
+// Job j is out, or of the table and over by the bound within its window.
 pub fn stands_at(s: State, j: usize, dur: u16, bound: u16, count: usize) -> bool
     requires { ⌜ j < 24 ⌝ }
     ensures { λ r. ⌜ Checks (Ends j dur bound count) s r (StandsIf s j dur bound count) ⌝ }
@@ -168,6 +177,7 @@ pub fn stands_at(s: State, j: usize, dur: u16, bound: u16, count: usize) -> bool
     orders::wide(s.lo[j]) + orders::wide(dur) <= orders::wide(bound)
 }
 
+// The same of all jobs.
 pub fn stand_all(s: State, steps: &[u16], ask: Ask) -> bool
     requires { ⌜ length (now steps) ≡ 24 ⌝ }
     ensures { λ r. ⌜ Checks (EndsAll (now (steps .entry)) ask) s r (AllStand s (now (steps .entry)) ask 24) ⌝ }
@@ -188,6 +198,7 @@ pub fn no_stray(w: u32) -> bool
     w < 16777216
 }
 
+// The start of job j: its lower bound, or 65,535.
 pub fn start_at(s: State, j: usize) -> u16
     requires { ⌜ j < 24 ⌝ }
     ensures { λ r. ⌜ r ≡ startOf (has (s .inside) j) (getD (s .lo) j 0) ⌝ }
@@ -198,6 +209,7 @@ pub fn start_at(s: State, j: usize) -> u16
     65535
 }
 
+// The starts of all jobs.
 pub fn starts(s: State) -> [u16; 24]
     ensures { λ r. ⌜ (length r ≡ 24) × ((j : ℕ) → j < 24 → getD r j 65535 ≡ startOf (has (s .inside) j) (getD (s .lo) j 0)) ⌝ }
 {

@@ -35,6 +35,7 @@ pub struct Answer {
     pub value: u32,
 }
 
+// A success that returns this value.
 pub fn done(value: u32) -> Answer
     ensures { λ r. ⌜ r ≡ answer accepted value 0 ⌝ }
 {
