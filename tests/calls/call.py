@@ -1,0 +1,130 @@
+"""One call of the stream: its bytes, and the same in readable form. The format is that of tests/second/README.md."""
+import struct
+
+KINDS = {
+    1: 'check plan', 2: 'plan within bound', 3: 'least bound', 4: 'supports', 5: 'binding pairs',
+    6: 'estimates', 7: 'settle', 8: 'read file', 9: 'write file', 10: 'opening facts',
+}
+WORDS = 16
+RECORD = struct.Struct('<QQQH6s')
+
+# What the product's program can take in; a stream that asks for more would test its buffers and not the planner.
+MOST_RECORDS, MOST_OUT, MOST_TABLE, MOST_FILE, MOST_MARKS = 255, 2048, 65600, 65700, 64
+
+
+class Call:
+    """A header of 16 words, the lent records (conditions, additions, deletions, duration), the given bytes."""
+
+    def __init__(self, head, records=(), table=b''):
+        self.head = list(head) + [0] * (WORDS - len(head))
+        self.records = list(records)
+        self.table = bytes(table)
+
+    def pack(self):
+        """The call as it stands in the stream; the six bytes behind a record are ignored, so they are not zero."""
+        self.demand_within_limits()
+        records = b''.join(RECORD.pack(*record, b'ignore') for record in self.records)
+        return struct.pack('<16Q', *self.head) + records + self.table
+
+    def demand_within_limits(self):
+        kind, head = self.head[0], self.head
+        most = MOST_FILE if kind in (8, 9) else MOST_TABLE
+        lengths = head[9:12] if kind == 10 else []
+        fits = (len(self.records) <= MOST_RECORDS and len(self.table) <= most and head[2] <= 255
+                and head[5] <= 65535 and max(lengths, default=0) <= MOST_MARKS
+                and (kind == 10 or head[10] <= MOST_OUT))
+        if not fits or head[8] != len(self.records) or table_bytes(head) != len(self.table):
+            raise ValueError(f'a call that does not fit: {head}')
+
+
+def table_bytes(head):
+    """The bytes of the given tables: one table, or the three mark tables in a row."""
+    return head[9] + 2 * head[10] + head[11] if head[0] == 10 else head[9]
+
+
+def read_call(stream):
+    """The next call of a stream, or None at its end."""
+    head = stream.read(8 * WORDS)
+    if not head:
+        return None
+    head = struct.unpack('<16Q', head)
+    records = [RECORD.unpack(stream.read(RECORD.size))[:4] for _ in range(head[8])]
+    return Call(head, records, stream.read(table_bytes(head)))
+
+
+# The readable form.
+
+def facts_text(word):
+    """A word of facts; words of many facts by their bits."""
+    numbers = [fact for fact in range(64) if word >> fact & 1]
+    return '{' + ' '.join(map(str, numbers)) + '}' if len(numbers) <= 12 else hex(word)
+
+
+def halves(table):
+    return list(struct.unpack(f'<{len(table) // 2}H', table[:len(table) // 2 * 2]))
+
+
+def float_text(bits):
+    value = struct.unpack('<d', struct.pack('<Q', bits))[0]
+    return f'{value!r} (bits {bits:016x})'
+
+
+def table_text(call):
+    """The jobs that count, at most the 24 that a table may have and two more, and the numbers beside."""
+    head = call.head
+    lines = [f'jobs {head[1]} ({head[8]} records lent), atoms {head[2]}, opening {facts_text(head[3])}, '
+             f'goals {facts_text(head[4])}, bound {head[5]}']
+    for number, job in enumerate(call.records[:min(head[1], 26)]):
+        lines.append(f'job {number}: {job_text(job)}')
+    return lines
+
+
+def job_text(job):
+    conditions, additions, deletions, duration = job
+    return (f'needs {facts_text(conditions)} adds {facts_text(additions)} '
+            f'deletes {facts_text(deletions)}, {duration} long')
+
+
+def bytes_text(name, data):
+    shown = data[-400:].hex()
+    return f'{name}: {len(data)} bytes' + (', the last 400: ' if len(data) > 400 else ': ') + shown
+
+
+def given_text(call):
+    """What stands behind the table, by kind."""
+    kind, head, table = call.head[0], call.head, call.table
+    if kind in (1, 4, 5):
+        starts = ['out' if start == 65535 else str(start) for start in halves(table)]
+        return [f'{len(starts)} starts: ' + ' '.join(starts[:40])]
+    if kind == 7:
+        pairs = [f'{table[at]}-{table[at + 1]}' for at in range(0, len(table) - 1, 2)]
+        return [f'set {facts_text(head[6])}, pair count {head[7]}, {len(table)} bytes of pairs: '
+                + ' '.join(pairs[:600])]
+    if kind == 9:
+        return [f'bytes in use {head[6]}', bytes_text('buffer', table)]
+    return []
+
+
+def readings_text(call):
+    head, table = call.head, call.table
+    channels, levels = table[:head[9]], table[head[9]:head[9] + 2 * head[10]]
+    signed = struct.unpack(f'<{head[10]}h', levels)
+    return [f'facts as given {facts_text(head[3])}, mark count {head[7]}',
+            f'temperature {float_text(head[6])}', f'humidity {float_text(head[12])}',
+            'channels ' + ' '.join(map(str, channels)), 'levels ' + ' '.join(map(str, signed)),
+            'facts ' + ' '.join(map(str, table[head[9] + 2 * head[10]:]))]
+
+
+def call_text(call):
+    """The call, a line a thing."""
+    kind, head = call.head[0], call.head
+    name = KINDS.get(kind, 'unknown')
+    if kind == 10:
+        lines = readings_text(call)
+    elif kind == 8:
+        lines = [f'{head[8]} records lent', bytes_text('file', call.table)]
+    else:
+        lines = table_text(call) + given_text(call)
+    if kind in (2, 3, 4, 5, 6, 7):
+        lines.append(f'{head[10]} elements lent, filled with {head[11]:02x}')
+    return '\n'.join([f'{kind} {name}'] + ['  ' + line for line in lines])

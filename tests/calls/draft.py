@@ -1,0 +1,147 @@
+"""A call on a job table before it is packed: in order as it stands, and faults that can be put into it."""
+import struct
+
+from call import Call
+from tables import LAST_BOUND, LONGEST, MOST_JOBS, OUT
+
+PAIR_TABLE = 552
+RECORD, TRAILER = 32, 24
+OFFERED, TABLED = (1, 4, 5), (1, 2, 3, 4, 5, 6, 7, 8, 9)
+MOST = 2 ** 64 - 1
+
+
+def room_needed(kind, count):
+    """Elements of the lent output table."""
+    return {4: 64 * (count + 1), 5: PAIR_TABLE, 1: 0, 8: 0, 9: 0}.get(kind, count)
+
+
+def save_bytes(jobs, count, atoms, opening, goals, bound, distance, notes=b''):
+    """A save with notes behind its records."""
+    records = b''.join(struct.pack('<QQQH6x', *job) for job in jobs)
+    trailer = struct.pack('<QQHBBI', opening, goals, bound, count, atoms, distance)
+    return records + notes + trailer
+
+
+class Draft:
+    """Everything a call on a table is made with; call() packs it."""
+
+    def __init__(self, kind, problem, starts=()):
+        self.kind, self.jobs, self.count = kind, list(problem.jobs), len(problem.jobs)
+        self.atoms, self.opening, self.goals, self.bound = problem.atoms, problem.opening, problem.goals, problem.bound
+        self.starts = list(starts)
+        self.set, self.pairs, self.pair_count = (1 << self.count) - 1, [], 0
+        self.before, self.notes, self.behind = b'', b'', b''
+        self.used, self.buffer = 0, bytes(RECORD * self.count + TRAILER)
+        self.lent = [(0x1111, 0x2222, 0x4444, 77)] * self.count
+        self.room, self.fill = room_needed(kind, self.count), 0xab
+
+    def file(self):
+        distance = RECORD * self.count + len(self.notes)
+        numbers = (self.count, self.atoms, self.opening, self.goals, self.bound, distance)
+        return self.before + save_bytes(self.jobs, *numbers, self.notes)
+
+    def given(self):
+        if self.kind in OFFERED:
+            return struct.pack(f'<{len(self.starts)}H', *self.starts)
+        if self.kind == 7:
+            return b''.join(bytes(pair) for pair in self.pairs) + self.behind
+        return {8: self.file, 9: lambda: self.buffer}.get(self.kind, bytes)()
+
+    def call(self):
+        given = self.given()
+        if self.kind == 8:
+            return Call([8] + [0] * 7 + [len(self.lent), len(given)], self.lent, given)
+        six = {7: self.set, 9: self.used}.get(self.kind, 0)
+        seven = self.pair_count if self.kind == 7 else 0
+        head = [self.kind, self.count, self.atoms, self.opening, self.goals, self.bound, six, seven,
+                len(self.jobs), len(given), self.room, self.fill]
+        return Call(head, self.jobs, given)
+
+    def set_field(self, place, field, value):
+        record = list(self.jobs[place])
+        record[field] = value
+        self.jobs[place] = tuple(record)
+
+
+# Faults. Each takes the draft, the dice and a job's place, and changes the draft where it can.
+
+def short_records(draft, dice, place):
+    if draft.kind == 8:
+        draft.lent = draft.lent[:-1]
+    elif draft.jobs:
+        draft.jobs.pop()
+
+
+def short_room(draft, dice, place):
+    draft.room = max(0, draft.room - dice.choice((1, 1, 2, 500)))
+    draft.buffer = draft.buffer[:-1]
+
+
+def short_given(draft, dice, place):
+    draft.starts = draft.starts[:-1]
+    draft.pair_count += 1 if draft.kind == 7 else 0
+    draft.behind = bytes(1) if draft.kind == 7 else b''
+
+
+def bad_atoms(draft, dice, place):
+    draft.atoms = dice.choice((0, 65, 66, 128, 255))
+
+
+def many_jobs(draft, dice, place):
+    """Over 24 jobs with everything lent that so many need."""
+    draft.count = MOST_JOBS + dice.choice((1, 1, 2, 7))
+    filler = draft.jobs[-1] if draft.jobs else (0, 1, 0, 1)
+    draft.jobs += [filler] * (draft.count - len(draft.jobs))
+    draft.starts += [OUT] * (draft.count - len(draft.starts))
+    draft.room = room_needed(draft.kind, draft.count)
+    draft.lent = [(1, 2, 4, 8)] * dice.choice((draft.count, draft.count, 255, MOST_JOBS))
+    draft.buffer = bytes(RECORD * draft.count + TRAILER + draft.used)
+
+
+def huge_count(draft, dice, place):
+    """A job count that nothing lent can serve; a file's count is one byte."""
+    if draft.kind == 8:
+        draft.count = dice.choice((100, 255))
+        draft.jobs += [(0, 1, 0, 1)] * (draft.count - len(draft.jobs))
+    else:
+        draft.count = dice.choice((draft.count + 1, 256, 2 ** 16, 2 ** 32, 2 ** 58, 2 ** 59, 2 ** 63, MOST - 1, MOST))
+
+
+def bad_duration(draft, dice, place):
+    if draft.jobs:
+        draft.set_field(place, 3, dice.choice((0, 0, LONGEST + 1, 1024, 32768, 65535)))
+
+
+def stray_fact(draft, dice, place):
+    """A fact at or above the atom count, often the very next."""
+    draft.atoms = min(draft.atoms, 63)
+    stray = 1 << dice.choice((draft.atoms, draft.atoms, 63, dice.randint(draft.atoms, 63)))
+    if draft.jobs:
+        field = dice.randrange(3)
+        draft.set_field(place, field, draft.jobs[place][field] | stray)
+
+
+def stray_beside(draft, dice, place):
+    """The same of opening facts or goals."""
+    draft.atoms = min(draft.atoms, 63)
+    stray = 1 << dice.randint(draft.atoms, 63)
+    if dice.random() < 0.5:
+        draft.opening |= stray
+    else:
+        draft.goals |= stray
+
+
+def both_ways(draft, dice, place):
+    """A job that adds and deletes one fact."""
+    if draft.jobs:
+        fact = 1 << dice.randrange(max(1, min(draft.atoms, 64)))
+        for field in (1, 2):
+            draft.set_field(place, field, draft.jobs[place][field] | fact)
+
+
+def late_bound(draft, dice, place):
+    draft.bound = dice.choice((LAST_BOUND + 1, LAST_BOUND + 1, 4096, 32768, 65535))
+
+
+FAULTS = [short_records, short_room, short_given, bad_atoms, many_jobs, huge_count, bad_duration, stray_fact,
+          stray_beside, both_ways, late_bound]

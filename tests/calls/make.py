@@ -1,0 +1,342 @@
+#!/usr/bin/env python3
+"""The stream of calls that both programs answer, made from a seed.
+
+    make.py               the fixed corpus of the gate
+    make.py N SEED        N calls of the same families from another seed
+"""
+import random
+import sys
+from dataclasses import replace
+
+sys.dont_write_bytecode = True
+import files
+import readings
+from call import Call
+from draft import FAULTS, MOST, OFFERED, TABLED, Draft
+from tables import (LAST_BOUND, LONGEST, OUT, Problem, chain, clashing, deleting_table, go_twice, house, interfere, jobs_u,
+                    large_table, last_end, random_chain, random_house, random_table, random_tower, small_table,
+                    some_plan, tower, trolley, with_goals)
+
+SEED = 20040725
+DRAWN = 7000
+
+
+# Tables with a plan that is valid within their bound.
+
+NAMED = [jobs_u([2, 3], 12), jobs_u([2, 3, 4], 12), jobs_u([0], 0), jobs_u([0, 1], LAST_BOUND), go_twice(), trolley(2)]
+
+
+def drawn_table(dice):
+    make = dice.choice((small_table, small_table, deleting_table, deleting_table, random_chain, random_tower, random_house))
+    return make(dice)
+
+
+def planned(dice, problem):
+    """A table with goals that a plan meets, and the plan."""
+    starts = some_plan(dice, problem)
+    return with_goals(dice, problem, starts), starts
+
+
+def planned_table(dice):
+    return planned(dice, dice.choice((drawn_table, drawn_table, large_table))(dice))
+
+
+# Planning.
+
+def planning_table(dice):
+    """Mostly with a plan; else with goals that may be out of reach."""
+    if dice.random() < 0.06:
+        return dice.choice(NAMED)
+    problem, _ = planned(dice, drawn_table(dice))
+    if dice.random() < 0.15:
+        return replace(problem, goals=problem.goals | 1 << dice.randrange(problem.atoms))
+    return problem
+
+
+def planning(dice):
+    """Within the bound of a plan, one less, half of it, or all the time there is."""
+    problem = planning_table(dice)
+    bound = dice.choice((problem.bound, problem.bound, max(0, problem.bound - 1), problem.bound // 2, LAST_BOUND))
+    draft = Draft(dice.choice((2, 2, 3)), replace(problem, bound=bound))
+    return with_lengths(draft, dice).call()
+
+
+def with_lengths(draft, dice):
+    """More is lent than needed, now and then."""
+    draft.room += dice.choice((0, 0, 1, 3))
+    draft.jobs += [(MOST, MOST, MOST, OUT)] * dice.choice((0, 0, 1))
+    draft.fill = dice.choice((0, 0xff, 0xab, 0x01))
+    return draft
+
+
+# Offered plans.
+
+def moved(dice, problem, starts):
+    """One job a quarter hour sooner or later."""
+    inside = [j for j, start in enumerate(starts) if start != OUT]
+    if inside:
+        j = dice.choice(inside)
+        starts[j] = max(0, starts[j] + dice.choice((-1, 1)))
+
+
+def left_out(dice, problem, starts):
+    if starts:
+        starts[dice.randrange(len(starts))] = OUT
+
+
+def put_in(dice, problem, starts):
+    """A job anywhere, also beyond all bounds."""
+    if starts:
+        starts[dice.randrange(len(starts))] = dice.choice((0, dice.randint(0, problem.bound + 1), OUT - 1, OUT - LONGEST))
+
+
+def swapped(dice, problem, starts):
+    if len(starts) > 1:
+        a, b = dice.sample(range(len(starts)), 2)
+        starts[a], starts[b] = starts[b], starts[a]
+
+
+def kept(dice, problem, starts):
+    """The valid plan as it is."""
+
+
+def offered(dice):
+    problem, starts = planned_table(dice)
+    dice.choice((kept, kept, kept, moved, moved, left_out, put_in, swapped))(dice, problem, starts)
+    if dice.random() < 0.1:
+        problem = replace(problem, bound=max(0, last_end(problem, starts) - 1))
+    if dice.random() < 0.1:
+        problem = replace(problem, goals=problem.goals | 1 << dice.randrange(problem.atoms))
+    draft = Draft(dice.choice(OFFERED), replace(problem, bound=min(problem.bound, LAST_BOUND)), starts)
+    draft.starts += [dice.choice((0, 7, OUT))] * dice.choice((0, 0, 1))
+    return with_lengths(draft, dice).call()
+
+
+# Estimates.
+
+def estimating(dice):
+    """The bound plays no part here, so it may be any."""
+    problem = dice.choice((drawn_table, large_table, large_table))(dice)
+    return with_lengths(Draft(6, replace(problem, bound=dice.choice((0, 12, 65535)))), dice).call()
+
+
+# Settling.
+
+def plan_pairs(problem, starts):
+    """Jobs of a plan that interfere, in its order."""
+    inside = sorted((start, j) for j, start in enumerate(starts) if start != OUT)
+    order = [j for _, j in inside]
+    return [(a, b) for i, a in enumerate(order) for b in order[i + 1:] if interfere(problem.jobs[a], problem.jobs[b])]
+
+
+def rising_pairs(dice, jobs):
+    """Pairs without a cycle, the same pair more than once."""
+    order = dice.sample(jobs, len(jobs))
+    places = [sorted(dice.choices(range(len(order)), k=2)) for _ in range(dice.randint(0, 40))]
+    return [(order[a], order[b]) for a, b in places if a != b]
+
+
+def any_pairs(dice, jobs):
+    return [tuple(dice.choices(jobs, k=2)) for _ in range(dice.choice((1, 2, 3, 9)))] if jobs else []
+
+
+def settled_end(draft):
+    """Where the last job ends at the least starts, or more than any bound if the pairs go in a circle."""
+    starts = {j: 0 for j in range(draft.count) if draft.set >> j & 1}
+    for _ in range(len(starts) + 1):
+        moves = [(b, starts[a] + draft.jobs[a][3]) for a, b in draft.pairs if starts[b] < starts[a] + draft.jobs[a][3]]
+        for b, start in moves:
+            starts[b] = max(starts[b], start)
+        if not moves:
+            break
+    return max((start + draft.jobs[j][3] for j, start in starts.items()), default=0)
+
+
+def settling(dice):
+    problem, starts = planned_table(dice)
+    draft = Draft(7, problem)
+    draft.set = dice.choice((draft.set, sum(1 << j for j, start in enumerate(starts) if start != OUT),
+                             draft.set & dice.getrandbits(24)))
+    inside = [j for j in range(draft.count) if draft.set >> j & 1]
+    make = dice.choice((rising_pairs, rising_pairs, any_pairs))
+    draft.pairs = make(dice, inside) if inside else []
+    if dice.random() < 0.3:
+        draft.pairs = [pair for pair in plan_pairs(problem, starts) if set(pair) <= set(inside)]
+    draft.bound = min(LAST_BOUND, max(0, settled_end(draft) + dice.choice((0, 0, -1, 1, LAST_BOUND))))
+    spoil_pairs(dice, draft)
+    draft.pair_count = len(draft.pairs)
+    draft.behind = bytes(dice.choice((0, 0, 1, 2, 5)))
+    return with_lengths(draft, dice).call()
+
+
+def spoil_pairs(dice, draft):
+    """Now and then a pair or the set names what is not there."""
+    chance = dice.random()
+    if chance < 0.08:
+        for _ in range(dice.choice((1, 2))):
+            draft.pairs.insert(dice.randint(0, len(draft.pairs)), (dice.choice((0, 23, 63, 64, 255)), dice.randrange(26)))
+    elif chance < 0.12:
+        draft.set |= 1 << dice.randint(draft.count, 63)
+    elif chance < 0.16:
+        outside = dice.randrange(64)
+        draft.pairs.append((outside, outside))
+
+
+def settling_limits(dice):
+    """Pair counts at 600 and 601 and any others, with as many bytes, fewer and more; sets beyond the table."""
+    links = chain([1] * 24, False)
+    for pairs, count, behind in ((600, 600, 0), (601, 601, 0), (600, 601, 0), (600, 601, 1), (599, 600, 3), (601, 600, 0),
+                                 (0, 1, 0), (0, 1, 1), (3, MOST, 0), (3, 2 ** 63, 0), (3, 2 ** 63 + 1, 9), (32800, 32800, 0),
+                                 (32800, 32801, 0), (700, 1000, 0), (0, 0, 7)):
+        draft = Draft(7, links)
+        rising = [sorted(dice.sample(range(24), 2)) for _ in range(pairs)]
+        draft.pairs, draft.pair_count, draft.behind = [tuple(pair) for pair in rising], count, bytes(behind)
+        yield draft.call()
+    for beyond in (24, 25, 31, 32, 62, 63):
+        for pair in ((0, 1), (beyond, 1), (1, beyond), (beyond, beyond)):
+            draft = Draft(7, links)
+            draft.set, draft.pairs, draft.pair_count = draft.set | 1 << beyond, [pair], 1
+            yield draft.call()
+
+
+# Bad input.
+
+def base_draft(dice, kind, jobs=None):
+    """A call in order, for faults to be put in; its plan is valid."""
+    table = random_table(dice, jobs, dice.choice((5, 33, 64)), 2, 9) if jobs else drawn_table(dice)
+    problem, starts = planned(dice, table)
+    return Draft(kind, problem, starts)
+
+
+def faulty(dice):
+    """One to four faults at once, in a random order of places."""
+    draft = base_draft(dice, dice.choice(TABLED), dice.choice((None, 2, 8, 24)))
+    for fault in dice.sample(FAULTS, dice.choice((1, 1, 2, 3, 4))):
+        fault(draft, dice, dice.randrange(len(draft.jobs)) if draft.jobs else 0)
+    return cut_to_limits(draft).call()
+
+
+def cut_to_limits(draft):
+    """What is lent stays within what the product's program takes in."""
+    draft.room = min(draft.room, 2048)
+    draft.jobs = draft.jobs[:255]
+    return draft
+
+
+def every_fault(dice):
+    """Each fault by itself, in each kind of call, at the first, a middle and the last job of 24."""
+    for kind in TABLED:
+        for fault in FAULTS:
+            for place in (0, 11, 23):
+                draft = base_draft(dice, kind, 24)
+                fault(draft, dice, place)
+                yield cut_to_limits(draft).call()
+
+
+def every_place(dice):
+    """The lowest job is named: two jobs with the same fault, at each place of the lower."""
+    for place in range(23):
+        for fault in FAULTS[6:10]:
+            draft = base_draft(dice, dice.choice((1, 6, 7, 9)), 24)
+            for at in (place, dice.randint(place + 1, 23)):
+                fault(draft, dice, at)
+            yield draft.call()
+
+
+def every_length(dice):
+    """Each kind with one element too few, just enough, one more, and none, for 0, 1 and 24 jobs."""
+    for kind in (2, 3, 4, 5, 6, 7):
+        for jobs in (0, 1, 24):
+            for more in (-1, 0, 1, -4096):
+                problem = replace(chain([1] * jobs, True), goals=1)
+                draft = Draft(kind, problem, [OUT] * jobs)
+                draft.room = max(0, draft.room + more)
+                yield draft.call()
+
+
+def every_count(dice):
+    """25 to 255 jobs with everything lent that so many need, where the lent table can be so long."""
+    for kind in TABLED[:-2]:
+        for count in (24, 25, 26, 31, 32, 64, 254, 255):
+            draft = base_draft(dice, kind, 24)
+            draft.jobs, draft.starts = [(0, 1, 0, 1)] * count, [OUT] * count
+            draft.count, draft.room = count, 2048
+            yield draft.call()
+
+
+def edges(dice):
+    """The last values that are taken and the first that are not."""
+    for kind in (1, 2, 3, 6, 7):
+        for long in (1, LONGEST, LONGEST + 1):
+            for bound in (long, LAST_BOUND, LAST_BOUND + 1):
+                for atoms in (1, 2, 64, 65):
+                    yield Draft(kind, Problem(((0, 2, 0, long),), atoms, 1, 2, min(bound, 65535)), [0]).call()
+    yield from (Call([kind]) for kind in (0, 11))
+
+
+# Named problems, at their bounds.
+
+def named(dice):
+    """Planning of the named problems at and around their bounds."""
+    batches = ((0,), (1,), (10,), (2, 1), (5, 7), (7, 7), (9, 4), (11, 6), (1, 7, 7), (0, 1, 2, 3))
+    houses = [house(groups) for groups in batches]
+    towers = [tower(2), tower(3), chain([1, 960, 960, 959], True), chain([5] * 24, True), chain([3] * 12, False)]
+    for problem in NAMED + houses + towers:
+        for bound in (0, 11, 12, 13, LAST_BOUND):
+            yield Draft(2, replace(problem, bound=bound)).call()
+            yield Draft(3, replace(problem, bound=bound)).call()
+        yield Draft(6, problem).call()
+    empty = Problem((), 2, 1, 0, 0)
+    yield from (Draft(kind, replace(empty, goals=goals)).call() for kind in (1, 2, 3, 4, 5, 6, 7) for goals in (0, 1, 2))
+
+
+def all_clash(dice):
+    """24 jobs of which all 276 pairs interfere, one after the other in either order and with one moved by one."""
+    problem = clashing(24)
+    for kind in OFFERED:
+        for starts in (list(range(24)), list(range(24))[::-1]):
+            yield Draft(kind, problem, starts).call()
+            at = dice.randrange(1, 24)
+            yield Draft(kind, problem, starts[:at] + starts[at - 1:at] + starts[at + 1:]).call()
+    draft = Draft(7, problem)
+    draft.pairs = [(a, b) for a in range(24) for b in range(a + 1, 24)]
+    draft.pair_count = len(draft.pairs)
+    yield draft.call()
+
+
+WALKS = (settling_limits, all_clash, every_fault, every_place, every_length, every_count, edges, named, files.walk,
+         readings.walk)
+FAMILIES = ((20, planning), (27, offered), (7, estimating), (11, settling), (11, files.reading), (6, files.writing),
+            (10, readings.opening), (12, faulty))
+
+
+def drawn(dice, count):
+    """Calls of all families, by weight."""
+    weights, families = zip(*FAMILIES)
+    for _ in range(count):
+        yield dice.choices(families, weights)[0](dice)
+
+
+def corpus():
+    """The fixed calls: every walk, then drawn ones, in a mixed order."""
+    dice = random.Random(SEED)
+    calls = [call for walk in WALKS for call in walk(dice)]
+    calls += drawn(dice, DRAWN)
+    dice.shuffle(calls)
+    return calls
+
+
+def more(count, seed):
+    return drawn(random.Random(seed), count)
+
+
+def main(words):
+    if len(words) not in (0, 2) or not all(word.isdigit() for word in words):
+        sys.exit('usage: make.py [N SEED]')
+    calls = more(int(words[0]), int(words[1])) if words else corpus()
+    for call in calls:
+        sys.stdout.buffer.write(call.pack())
+
+
+if __name__ == '__main__':
+    main(sys.argv[1:])
