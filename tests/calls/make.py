@@ -15,7 +15,7 @@ from call import Call
 from draft import FAULTS, MOST, OFFERED, TABLED, Draft
 from tables import (LAST_BOUND, LONGEST, OUT, Problem, chain, clashing, deleting_table, go_twice, house, interfere, jobs_u,
                     large_table, last_end, random_chain, random_house, random_table, random_tower, small_table,
-                    some_plan, tower, trolley, with_goals)
+                    some_facts, some_plan, tower, trolley, with_goals)
 
 SEED = 20040725
 DRAWN = 7000
@@ -105,8 +105,8 @@ def offered(dice):
     dice.choice((kept, kept, kept, moved, moved, left_out, put_in, swapped))(dice, problem, starts)
     if dice.random() < 0.1:
         problem = replace(problem, bound=max(0, last_end(problem, starts) - 1))
-    if dice.random() < 0.1:
-        problem = replace(problem, goals=problem.goals | 1 << dice.randrange(problem.atoms))
+    if dice.random() < 0.15:
+        problem = replace(problem, goals=problem.goals | some_facts(dice, 4, problem.atoms))
     draft = Draft(dice.choice(OFFERED), replace(problem, bound=min(problem.bound, LAST_BOUND)), starts)
     draft.starts += [dice.choice((0, 7, OUT))] * dice.choice((0, 0, 1))
     return with_lengths(draft, dice).call()
