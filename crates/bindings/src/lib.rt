@@ -23,7 +23,7 @@ pub struct Feeders {
 }
 
 // The lowest job that gives fact p in the row, or n.
-pub fn first_giver(row: Row, n: usize, p: usize) -> usize
+fn first_giver(row: Row, n: usize, p: usize) -> usize
     requires { ⌜ (n ≤ 24) × (p < 64) ⌝ }
     ensures { λ r. ⌜ r ≡ least (λ a. has (getD (row .by) a 0) p) n ⌝ }
 {
@@ -36,7 +36,7 @@ pub fn first_giver(row: Row, n: usize, p: usize) -> usize
 }
 
 // The byte of fact p in the row.
-pub fn support_byte(row: Row, n: usize, p: usize) -> u8
+fn support_byte(row: Row, n: usize, p: usize) -> u8
     requires { ⌜ (n ≤ 24) × (p < 64) ⌝ }
     ensures { λ r. ⌜ r ≡ rowByte row n p ⌝ }
 {
@@ -51,7 +51,7 @@ pub fn support_byte(row: Row, n: usize, p: usize) -> u8
 }
 
 // One row of 64 bytes is written from base on.
-pub fn fill_row(row: Row, n: usize, base: usize, out: &mut [u8])
+fn fill_row(row: Row, n: usize, base: usize, out: &mut [u8])
     requires { ⌜ (n ≤ 24) × (base + 64 ≤ length (now out)) ⌝ }
     ensures { λ _. ⌜ FillsRow row n base (now (out .entry)) (now (out .exit)) ⌝ }
 {
@@ -61,7 +61,7 @@ pub fn fill_row(row: Row, n: usize, base: usize, out: &mut [u8])
 }
 
 // The whole table of supports is written.
-pub fn fill_supports(l: Loaded, q: Ask, s: &[u16], out: &mut [u8])
+fn fill_supports(l: Loaded, q: Ask, s: &[u16], out: &mut [u8])
     requires { ⌜ Given q (now s) × (64 * (q .jobs + 1) ≤ length (now out)) ⌝ }
     ensures { λ _. ⌜ now (out .exit) ≡ filled (supportByte (problem l q) (q .bound) (starts (now (s .entry)))) (64 * (q .jobs + 1)) (now (out .entry)) ⌝ }
 {
@@ -85,14 +85,14 @@ pub fn supports(l: Loaded, q: Ask, starts: &[u16], out: &mut [u8]) -> Answer
 }
 
 // The word has a fact.
-pub fn some_fact(w: u64) -> bool
+fn some_fact(w: u64) -> bool
     ensures { λ r. ⌜ r ≡ any (has w) 64 ⌝ }
 {
     facts::lowest(w) < 64
 }
 
 // One job more in the set, where the test passes.
-pub fn with_if(w: u64, a: usize, yes: bool) -> u64
+fn with_if(w: u64, a: usize, yes: bool) -> u64
     requires { ⌜ a < 64 ⌝ }
     ensures { λ r. ⌜ Word (λ i. has w i || (yes && eqb i a)) r ⌝ }
 {
@@ -103,7 +103,7 @@ pub fn with_if(w: u64, a: usize, yes: bool) -> u64
 }
 
 // The set of jobs that give a fact in the row.
-pub fn givers(row: Row, n: usize) -> u64
+fn givers(row: Row, n: usize) -> u64
     requires { ⌜ n ≤ 24 ⌝ }
     ensures { λ r. ⌜ ((a : ℕ) → a < n → has r a ≡ any (has (getD (row .by) a 0)) 64) ⌝ }
 {
@@ -115,7 +115,7 @@ pub fn givers(row: Row, n: usize) -> u64
 }
 
 // Of each job, the jobs that are named supports of its conditions.
-pub fn all_feeders(l: Loaded, q: Ask, s: &[u16]) -> Feeders
+fn all_feeders(l: Loaded, q: Ask, s: &[u16]) -> Feeders
     requires { ⌜ Given q (now s) ⌝ }
     ensures { λ r. ⌜ FeedersOf (problem l q) (starts (now (s .entry))) r ⌝ }
 {
@@ -128,7 +128,7 @@ pub fn all_feeders(l: Loaded, q: Ask, s: &[u16]) -> Feeders
 }
 
 // Job a, then job b, is a binding pair.
-pub fn binds(l: Loaded, q: Ask, s: &[u16], f: Feeders, a: usize, b: usize) -> bool
+fn binds(l: Loaded, q: Ask, s: &[u16], f: Feeders, a: usize, b: usize) -> bool
     requires { ⌜ Given q (now s) × (a < q .jobs) × (b < q .jobs) × FeedersOf (problem l q) (starts (now s)) f ⌝ }
     ensures { λ r. ⌜ r ≡ binds (problem l q) (starts (now (s .entry))) a b ⌝ }
 {
@@ -142,7 +142,7 @@ pub fn binds(l: Loaded, q: Ask, s: &[u16], f: Feeders, a: usize, b: usize) -> bo
 }
 
 // A pair is written behind what is there, where the test passes; the next place comes back.
-pub fn put_if(out: &mut [u8], at: usize, yes: bool, a: usize, b: usize) -> usize
+fn put_if(out: &mut [u8], at: usize, yes: bool, a: usize, b: usize) -> usize
     requires { ⌜ (a < 24) × (b < 24) × (at + length (pairIf yes a b) ≤ length (now out)) ⌝ }
     ensures { λ r. ⌜ Puts (pairIf yes a b) at (now (out .entry)) (now (out .exit)) r ⌝ }
 {
@@ -155,7 +155,7 @@ pub fn put_if(out: &mut [u8], at: usize, yes: bool, a: usize, b: usize) -> usize
 }
 
 // The pairs with first job a are written behind what is there.
-pub fn put_row(
+fn put_row(
     l: Loaded,
     q: Ask,
     s: &[u16],

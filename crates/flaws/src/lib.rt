@@ -38,7 +38,7 @@ pub fn late_for(s: State, b: usize, d: usize) -> bool
 }
 
 // The consumer b is surely over before d starts; End never is.
-pub fn done_for(s: State, b: usize, d: usize) -> bool
+fn done_for(s: State, b: usize, d: usize) -> bool
     requires { ⌜ (b ≤ 24) × (d < 24) ⌝ }
     ensures { λ r. ⌜ r ≡ done (view s) (who b) d ⌝ }
 {
@@ -50,7 +50,7 @@ pub fn done_for(s: State, b: usize, d: usize) -> bool
 }
 
 // Job a is surely not over before the consumer b.
-pub fn useless_for(s: State, a: usize, b: usize) -> bool
+fn useless_for(s: State, a: usize, b: usize) -> bool
     requires { ⌜ (b ≤ 24) × (a < 24) ⌝ }
     ensures { λ r. ⌜ r ≡ useless (view s) a (who b) ⌝ }
 {
@@ -62,7 +62,7 @@ pub fn useless_for(s: State, a: usize, b: usize) -> bool
 }
 
 // Job a is surely over before the consumer b.
-pub fn serves_for(s: State, a: usize, b: usize) -> bool
+fn serves_for(s: State, a: usize, b: usize) -> bool
     requires { ⌜ (b ≤ 24) × (a < 24) ⌝ }
     ensures { λ r. ⌜ r ≡ serves (view s) a (who b) ⌝ }
 {
@@ -74,7 +74,7 @@ pub fn serves_for(s: State, a: usize, b: usize) -> bool
 }
 
 // Job d is inside and deletes the fact whose deleters are `kills`, and is not the consumer.
-pub fn killer(s: State, b: usize, kills: u32, d: usize) -> bool
+fn killer(s: State, b: usize, kills: u32, d: usize) -> bool
     requires { ⌜ (b ≤ 24) × (d < 24) ⌝ }
     ensures { λ r. ⌜ ((P : Search) (p : ℕ) → Cols (Deletes P p) kills 24 → Decides r (Killer P (view s) p (who b) d)) ⌝ }
 {
@@ -88,7 +88,7 @@ pub fn killer(s: State, b: usize, kills: u32, d: usize) -> bool
 }
 
 // Job d deletes the fact, and the consumer is surely not over before it.
-pub fn danger_at(s: State, b: usize, kills: u32, d: usize) -> bool
+fn danger_at(s: State, b: usize, kills: u32, d: usize) -> bool
     requires { ⌜ (b ≤ 24) × (d < 24) ⌝ }
     ensures { λ r. ⌜ ((P : Search) (p : ℕ) → Cols (Deletes P p) kills 24 → Decides r (Danger P s p b d)) ⌝ }
 {
@@ -99,7 +99,7 @@ pub fn danger_at(s: State, b: usize, kills: u32, d: usize) -> bool
 }
 
 // Job d deletes the fact, and the consumer is not surely over before it.
-pub fn unsettled_at(s: State, b: usize, kills: u32, d: usize) -> bool
+fn unsettled_at(s: State, b: usize, kills: u32, d: usize) -> bool
     requires { ⌜ (b ≤ 24) × (d < 24) ⌝ }
     ensures { λ r. ⌜ ((P : Search) (p : ℕ) → Cols (Deletes P p) kills 24 → Decides r (Unsettled P s p b d)) ⌝ }
 {
@@ -180,7 +180,7 @@ fn in_not(w: u32, v: u32, d: usize) -> bool
 }
 
 // What the candidate a wants for the consumer b.
-pub fn support(s: State, b: usize, a: usize, rest: u32) -> Choice
+fn support(s: State, b: usize, a: usize, rest: u32) -> Choice
     requires { ⌜ (b ≤ 24) × (a < 24) ⌝ }
     ensures { λ r. ⌜ ((P : Search) (p A G : ℕ) → Scene P s p b A G rest → MayJob P (view s) p (who b) a → Picks s (SafeJob P (view s) p (who b) a) ⊥ r) ⌝ }
 {
@@ -228,7 +228,7 @@ pub fn support(s: State, b: usize, a: usize, rest: u32) -> Choice
 }
 
 // Where job a of this length finishes at the earliest.
-pub fn reach(s: State, a: usize, step: u16) -> u32
+fn reach(s: State, a: usize, step: u16) -> u32
     requires { ⌜ a < 24 ⌝ }
     ensures { λ r. ⌜ r < 131072 ⌝ }
 {
@@ -236,7 +236,7 @@ pub fn reach(s: State, a: usize, step: u16) -> u32
 }
 
 // How much room there is for a job that reaches so far before y.
-pub fn slack(s: State, y: usize, early: u32) -> u32
+fn slack(s: State, y: usize, early: u32) -> u32
     requires { ⌜ y < 24 ⌝ }
 {
     let last = orders::wide(s.hi[y]);
@@ -247,7 +247,7 @@ pub fn slack(s: State, y: usize, early: u32) -> u32
 }
 
 // The same choice with its rank: a threat by its slack, behind all threats an open condition by its earliest candidate.
-pub fn rated(s: State, b: usize, c: Choice, steps: &[u16]) -> Choice
+fn rated(s: State, b: usize, c: Choice, steps: &[u16]) -> Choice
     requires { ⌜ length (now steps) ≡ 24 ⌝ }
     ensures { λ r. ⌜ Alike c r ⌝ }
 {
@@ -285,7 +285,7 @@ pub fn rated(s: State, b: usize, c: Choice, steps: &[u16]) -> Choice
 }
 
 // Among open conditions the one whose earliest candidate is latest comes first.
-pub fn latest(c: Choice) -> Choice
+fn latest(c: Choice) -> Choice
     ensures { λ r. ⌜ Alike c r ⌝ }
 {
     let rank = c.rank;
@@ -301,7 +301,7 @@ pub fn latest(c: Choice) -> Choice
 }
 
 // Of two candidates the one to be tried: an established one, else the earlier.
-pub fn sooner(best: Choice, c: Choice) -> Choice
+fn sooner(best: Choice, c: Choice) -> Choice
     ensures { λ r. ⌜ Sooner best c r ⌝ }
 {
     if best.kind == 1 {
@@ -317,7 +317,7 @@ pub fn sooner(best: Choice, c: Choice) -> Choice
 }
 
 // Of two flaws the one to be repaired: a dead end, else that of the lower rank.
-pub fn urgent(best: Choice, c: Choice) -> Choice
+fn urgent(best: Choice, c: Choice) -> Choice
     ensures { λ r. ⌜ Urgent best c r ⌝ }
 {
     if c.kind == 0 {
@@ -336,7 +336,7 @@ pub fn urgent(best: Choice, c: Choice) -> Choice
 }
 
 // The choice so far, with the candidate a looked at.
-pub fn better(
+fn better(
     s: State,
     b: usize,
     a: usize,
@@ -358,7 +358,7 @@ pub fn better(
 }
 
 // The candidate to be tried first, with what it wants.
-pub fn best_job(s: State, b: usize, adders: u32, dang: u32, rest: u32, steps: &[u16]) -> Choice
+fn best_job(s: State, b: usize, adders: u32, dang: u32, rest: u32, steps: &[u16]) -> Choice
     requires { ⌜ (b ≤ 24) × (length (now steps) ≡ 24) ⌝ }
     ensures { λ r. ⌜ ((P : Search) (p : ℕ) → Scene P s p b adders dang rest → Picks s (SomeSafe P s p b) (NoneBelow P s p b 24) r) ⌝ }
 {
@@ -386,7 +386,7 @@ pub fn fact(w: u64, p: usize) -> bool
 }
 
 // Start is a candidate: what it wants.
-pub fn start_choice(s: State, b: usize, rest: u32) -> Choice
+fn start_choice(s: State, b: usize, rest: u32) -> Choice
     requires { ⌜ b ≤ 24 ⌝ }
     ensures { λ r. ⌜ ((P : Search) (p A : ℕ) → Scene P s p b A 0 rest → T (has (P .problem .opening) p) → Picks s (SomeSafe P s p b) ⊥ r) ⌝ }
 {
@@ -408,7 +408,7 @@ pub fn start_choice(s: State, b: usize, rest: u32) -> Choice
 }
 
 // What the fact p wants for the consumer b.
-pub fn condition(
+fn condition(
     s: State,
     b: usize,
     p: usize,
@@ -437,7 +437,7 @@ pub fn condition(
 }
 
 // The same, if p is a fact of the word.
-pub fn condition_at(
+fn condition_at(
     s: State,
     b: usize,
     word: u64,
@@ -462,7 +462,7 @@ pub fn condition_at(
 }
 
 // What the facts of a word want for the consumer b.
-pub fn conditions(
+fn conditions(
     s: State,
     b: usize,
     word: u64,
@@ -488,7 +488,7 @@ pub fn conditions(
 }
 
 // Two jobs that interfere.
-pub fn mutex_at(s: State, a: usize, b: usize) -> Choice
+fn mutex_at(s: State, a: usize, b: usize) -> Choice
     requires { ⌜ (a < 24) × (b < 24) ⌝ }
     ensures { λ r. ⌜ ((P : Search) → InOrder (P .problem) → T (interfere (P .problem) a b) → Picks s (Ordered s a b) (Dead P (view s)) r) ⌝ }
 {
@@ -553,7 +553,7 @@ pub fn mutex_at(s: State, a: usize, b: usize) -> Choice
 }
 
 // What the consumer b wants.
-pub fn consumer_at(
+fn consumer_at(
     s: State,
     b: usize,
     ask: Ask,
@@ -580,7 +580,7 @@ pub fn consumer_at(
 }
 
 // What all consumers want.
-pub fn consumers(
+fn consumers(
     s: State,
     ask: Ask,
     conds: &[u64],
@@ -605,7 +605,7 @@ pub fn consumers(
 }
 
 // Two jobs, if they interfere.
-pub fn mutex_hit(s: State, a: usize, b: usize, hits: u32) -> Choice
+fn mutex_hit(s: State, a: usize, b: usize, hits: u32) -> Choice
     requires { ⌜ (a < 24) × (b < 24) ⌝ }
     ensures { λ r. ⌜ ((P : Search) → InOrder (P .problem) → Hits a hits P → Picks s (T (has hits b) → Ordered s a b) (Dead P (view s)) r) ⌝ }
 {
@@ -621,7 +621,7 @@ pub fn mutex_hit(s: State, a: usize, b: usize, hits: u32) -> Choice
 }
 
 // All jobs that interfere with a.
-pub fn mutex_row(s: State, a: usize, hits: u32) -> Choice
+fn mutex_row(s: State, a: usize, hits: u32) -> Choice
     requires { ⌜ a < 24 ⌝ }
     ensures { λ r. ⌜ ((P : Search) → InOrder (P .problem) → Hits a hits P → Picks s (RowOrdered s a hits 24) (Dead P (view s)) r) ⌝ }
 {
@@ -640,7 +640,7 @@ pub fn mutex_row(s: State, a: usize, hits: u32) -> Choice
 }
 
 // All jobs that interfere.
-pub fn mutexes(s: State, hits: &[u32]) -> Choice
+fn mutexes(s: State, hits: &[u32]) -> Choice
     requires { ⌜ length (now hits) ≡ 24 ⌝ }
     ensures { λ r. ⌜ ((P : Search) → InOrder (P .problem) → AllHits (now (hits .entry)) P → Picks s (AllOrdered s (now (hits .entry)) 24) (Dead P (view s)) r) ⌝ }
 {

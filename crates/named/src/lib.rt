@@ -27,7 +27,7 @@ pub struct Row {
 }
 
 // The facts of a that are not in b.
-pub fn less(a: u64, b: u64) -> u64
+fn less(a: u64, b: u64) -> u64
     ensures { λ r. ⌜ Word (λ p. has a p && not (has b p)) r ⌝ }
 {
     a & !b
@@ -41,7 +41,7 @@ pub fn over_by(start: u16, duration: u16, at: u32) -> bool
 }
 
 // The job is in, finishes after `from` and starts before `till`.
-pub fn in_way(start: u16, duration: u16, from: u32, till: u32) -> bool
+fn in_way(start: u16, duration: u16, from: u32, till: u32) -> bool
     ensures { λ r. ⌜ r ≡ (chosen start && (ltb from (start + duration) && ltb start till)) ⌝ }
 {
     if start == 65535 {
@@ -51,7 +51,7 @@ pub fn in_way(start: u16, duration: u16, from: u32, till: u32) -> bool
 }
 
 // The word, where both tests pass.
-pub fn word_if(first: bool, second: bool, w: u64) -> u64
+fn word_if(first: bool, second: bool, w: u64) -> u64
     ensures { λ r. ⌜ Word (λ p. has w p && (first && second)) r ⌝ }
 {
     if first {
@@ -63,7 +63,7 @@ pub fn word_if(first: bool, second: bool, w: u64) -> u64
 }
 
 // The facts that some job deletes which is not the holder, and neither finishes by `from` nor starts after the holder's finish.
-pub fn blocked(l: Loaded, q: Ask, s: &[u16], c: Holder, from: u32) -> u64
+fn blocked(l: Loaded, q: Ask, s: &[u16], c: Holder, from: u32) -> u64
     requires { ⌜ Given q (now s) ⌝ }
     ensures { λ r. ⌜ Word (λ p. any (blocks (problem l q) (starts (now (s .entry))) p (consumer c) 0 from) (q .jobs)) r ⌝ }
 {
@@ -77,7 +77,7 @@ pub fn blocked(l: Loaded, q: Ask, s: &[u16], c: Holder, from: u32) -> u64
 }
 
 // The facts that Start can support for the holder.
-pub fn start_fits(l: Loaded, q: Ask, s: &[u16], c: Holder) -> u64
+fn start_fits(l: Loaded, q: Ask, s: &[u16], c: Holder) -> u64
     requires { ⌜ Given q (now s) ⌝ }
     ensures { λ r. ⌜ Word (λ p. startFits (problem l q) (starts (now (s .entry))) p (consumer c)) r ⌝ }
 {
@@ -85,7 +85,7 @@ pub fn start_fits(l: Loaded, q: Ask, s: &[u16], c: Holder) -> u64
 }
 
 // The facts that job a can support for the holder.
-pub fn job_fits(l: Loaded, q: Ask, s: &[u16], c: Holder, a: usize) -> u64
+fn job_fits(l: Loaded, q: Ask, s: &[u16], c: Holder, a: usize) -> u64
     requires { ⌜ Given q (now s) × (a < q .jobs) ⌝ }
     ensures { λ r. ⌜ Word (λ p. jobFits (problem l q) (starts (now (s .entry))) p (consumer c) a) r ⌝ }
 {
@@ -96,7 +96,7 @@ pub fn job_fits(l: Loaded, q: Ask, s: &[u16], c: Holder, a: usize) -> u64
 }
 
 // The conditions by named support: Start first, then each job what is left.
-pub fn named_row(l: Loaded, q: Ask, s: &[u16], c: Holder, want: u64) -> Row
+fn named_row(l: Loaded, q: Ask, s: &[u16], c: Holder, want: u64) -> Row
     requires { ⌜ Given q (now s) ⌝ }
     ensures { λ r. ⌜ RowOf (problem l q) (starts (now (s .entry))) (consumer c) (has want) r ⌝ }
 {
@@ -116,7 +116,7 @@ pub fn named_row(l: Loaded, q: Ask, s: &[u16], c: Holder, want: u64) -> Row
 }
 
 // Holder b by its start and its length.
-pub fn holder_at(b: usize, start: u16, duration: u16) -> Holder
+fn holder_at(b: usize, start: u16, duration: u16) -> Holder
     ensures { λ r. ⌜ consumer r ≡ record { me = b; at = start; till = start + duration; lag = 0 } ⌝ }
 {
     Holder {
@@ -127,7 +127,7 @@ pub fn holder_at(b: usize, start: u16, duration: u16) -> Holder
 }
 
 // Who has row b: job b, or End after the last job.
-pub fn holder_of(l: Loaded, q: Ask, s: &[u16], b: usize) -> Holder
+fn holder_of(l: Loaded, q: Ask, s: &[u16], b: usize) -> Holder
     requires { ⌜ Given q (now s) × (b ≤ q .jobs) ⌝ }
     ensures { λ r. ⌜ consumer r ≡ inRow (eqb b (q .jobs)) (problem l q) (q .bound) (starts (now (s .entry))) b ⌝ }
 {
@@ -138,7 +138,7 @@ pub fn holder_of(l: Loaded, q: Ask, s: &[u16], b: usize) -> Holder
 }
 
 // The conditions of row b; a job that is out has none.
-pub fn wanted(l: Loaded, q: Ask, s: &[u16], b: usize) -> u64
+fn wanted(l: Loaded, q: Ask, s: &[u16], b: usize) -> u64
     requires { ⌜ Given q (now s) × (b ≤ q .jobs) ⌝ }
     ensures { λ r. ⌜ Word (wants (eqb b (q .jobs)) (problem l q) (starts (now (s .entry))) b) r ⌝ }
 {

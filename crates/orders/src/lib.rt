@@ -116,7 +116,7 @@ pub fn put_hi(s: State, j: usize, x: u16) -> State
 }
 
 // a is over before b and a is inside: b starts late enough, or is out.
-pub fn push(s: State, a: usize, b: usize, step: u16) -> State
+fn push(s: State, a: usize, b: usize, step: u16) -> State
     requires { ⌜ (a < 24) × (b < 24) ⌝ }
     ensures { λ r. ⌜ Prunes (Takes a step) s r ⌝ }
 {
@@ -138,7 +138,7 @@ pub fn push(s: State, a: usize, b: usize, step: u16) -> State
 }
 
 // a is over before b and b is inside: a starts early enough, or is out.
-pub fn pull(s: State, a: usize, b: usize, step: u16) -> State
+fn pull(s: State, a: usize, b: usize, step: u16) -> State
     requires { ⌜ (a < 24) × (b < 24) ⌝ }
     ensures { λ r. ⌜ Prunes (Takes a step) s r ⌝ }
 {
@@ -161,7 +161,7 @@ pub fn pull(s: State, a: usize, b: usize, step: u16) -> State
 }
 
 // The windows keep a from being over before b.
-pub fn far(s: State, a: usize, b: usize, step: u16) -> State
+fn far(s: State, a: usize, b: usize, step: u16) -> State
     requires { ⌜ (a < 24) × (b < 24) ⌝ }
     ensures { λ r. ⌜ Prunes (Takes a step) s r ⌝ }
 {
@@ -173,7 +173,7 @@ pub fn far(s: State, a: usize, b: usize, step: u16) -> State
 }
 
 // a over before b: not b before a. Of two that interfere, not a before b: b before a.
-pub fn orders(s: State, a: usize, b: usize, hit: bool) -> State
+fn orders(s: State, a: usize, b: usize, hit: bool) -> State
     requires { ⌜ (a < 24) × (b < 24) ⌝ }
     ensures { λ r. ⌜ Prunes (Clashes a b hit) s r ⌝ }
 {
@@ -192,7 +192,7 @@ pub fn orders(s: State, a: usize, b: usize, hit: bool) -> State
 }
 
 // Both orders of a pair and one of its jobs inside: the other is out.
-pub fn clash(s: State, a: usize, b: usize) -> State
+fn clash(s: State, a: usize, b: usize) -> State
     requires { ⌜ (a < 24) × (b < 24) ⌝ }
     ensures { λ r. ⌜ Prunes Any s r ⌝ }
 {
@@ -214,7 +214,7 @@ pub fn clash(s: State, a: usize, b: usize) -> State
 }
 
 // All of these for one pair.
-pub fn pair(s: State, a: usize, b: usize, step: u16, hit: bool) -> State
+fn pair(s: State, a: usize, b: usize, step: u16, hit: bool) -> State
     requires { ⌜ (a < 24) × (b < 24) ⌝ }
     ensures { λ r. ⌜ ((P : Search) → InOrder (P .problem) → Takes a step P → Clashes a b hit P → Keeps P (view s) (view r)) ⌝ }
 {
@@ -226,7 +226,7 @@ pub fn pair(s: State, a: usize, b: usize, step: u16, hit: bool) -> State
 }
 
 // All pairs with b.
-pub fn pairs_at(s: State, b: usize, steps: &[u16], hits: &[u32]) -> State
+fn pairs_at(s: State, b: usize, steps: &[u16], hits: &[u32]) -> State
     requires { ⌜ (b < 24) × ((length (now steps) ≡ 24) × (length (now hits) ≡ 24)) ⌝ }
     ensures { λ r. ⌜ Prunes (Tabled (now (steps .entry)) (now (hits .entry))) s r ⌝ }
 {
@@ -251,7 +251,7 @@ pub fn pairs(s: State, steps: &[u16], hits: &[u32]) -> State
 }
 
 // The jobs of v are over before b.
-pub fn put_sures(s: State, b: usize, v: u32) -> State
+fn put_sures(s: State, b: usize, v: u32) -> State
     requires { ⌜ b < 24 ⌝ }
     ensures { λ r. ⌜ PutSures s b v r ⌝ }
 {
@@ -262,7 +262,7 @@ pub fn put_sures(s: State, b: usize, v: u32) -> State
 }
 
 // m is inside and over before b: what is over before m is over before b.
-pub fn through(s: State, m: usize, b: usize) -> State
+fn through(s: State, m: usize, b: usize) -> State
     requires { ⌜ (m < 24) × (b < 24) ⌝ }
     ensures { λ r. ⌜ Prunes Any s r ⌝ }
 {
@@ -278,7 +278,7 @@ pub fn through(s: State, m: usize, b: usize) -> State
 }
 
 // All that is over before b by way of another job.
-pub fn through_all(s: State, b: usize) -> State
+fn through_all(s: State, b: usize) -> State
     requires { ⌜ b < 24 ⌝ }
     ensures { λ r. ⌜ Prunes Any s r ⌝ }
 {
@@ -290,7 +290,7 @@ pub fn through_all(s: State, b: usize) -> State
 }
 
 // A job whose window is empty is out.
-pub fn shut(s: State, j: usize) -> State
+fn shut(s: State, j: usize) -> State
     requires { ⌜ j < 24 ⌝ }
     ensures { λ r. ⌜ Prunes Any s r ⌝ }
 {

@@ -15,7 +15,7 @@ pub struct Step {
 }
 
 // A plan without job k.
-pub fn try_without(
+fn try_without(
     base: State,
     k: usize,
     ask: flaws::Ask,
@@ -33,7 +33,7 @@ pub fn try_without(
 }
 
 // A plan with job k before t.
-pub fn try_sooner(
+fn try_sooner(
     base: State,
     k: usize,
     t: u16,
@@ -63,7 +63,7 @@ pub fn try_sooner(
 }
 
 // The earliest start of k.
-pub fn lower(
+fn lower(
     base: State,
     k: usize,
     f: [u16; 24],
@@ -90,7 +90,7 @@ pub fn lower(
 }
 
 // Job k is settled.
-pub fn settle_job(
+fn settle_job(
     base: State,
     k: usize,
     f: [u16; 24],

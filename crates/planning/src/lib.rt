@@ -33,7 +33,7 @@ pub struct Least {
 }
 
 // Job j is below n and has fact p in its word.
-pub fn job_has(words: [u64; 24], n: usize, j: usize, p: usize) -> bool
+fn job_has(words: [u64; 24], n: usize, j: usize, p: usize) -> bool
     requires { ⌜ (j < 24) × (p < 64) ⌝ }
     ensures { λ r. ⌜ Decides r (Among words n p j) ⌝ }
 {
@@ -44,7 +44,7 @@ pub fn job_has(words: [u64; 24], n: usize, j: usize, p: usize) -> bool
 }
 
 // The jobs below n that have fact p.
-pub fn jobs_with(words: [u64; 24], n: usize, p: usize) -> u32
+fn jobs_with(words: [u64; 24], n: usize, p: usize) -> u32
     requires { ⌜ p < 64 ⌝ }
     ensures { λ r. ⌜ Cols (Among words n p) r 24 ⌝ }
 {
@@ -57,7 +57,7 @@ pub fn jobs_with(words: [u64; 24], n: usize, p: usize) -> u32
 }
 
 // Of each fact the jobs that have it.
-pub fn by_fact(words: [u64; 24], n: usize) -> [u32; 64]
+fn by_fact(words: [u64; 24], n: usize) -> [u32; 64]
     ensures { λ r. ⌜ ByFact words n r 64 ⌝ }
 {
     let mut t = [0u32; 64];
@@ -68,7 +68,7 @@ pub fn by_fact(words: [u64; 24], n: usize) -> [u32; 64]
 }
 
 // Job b is in the table and interferes with a.
-pub fn job_hits(l: Loaded, q: Ask, a: usize, b: usize) -> bool
+fn job_hits(l: Loaded, q: Ask, a: usize, b: usize) -> bool
     requires { ⌜ (a < 24) × (b < 24) ⌝ }
     ensures { λ r. ⌜ Decides r (Hit l q a b) ⌝ }
 {
@@ -79,7 +79,7 @@ pub fn job_hits(l: Loaded, q: Ask, a: usize, b: usize) -> bool
 }
 
 // The jobs that interfere with a.
-pub fn hits_of(l: Loaded, q: Ask, a: usize) -> u32
+fn hits_of(l: Loaded, q: Ask, a: usize) -> u32
     requires { ⌜ a < 24 ⌝ }
     ensures { λ r. ⌜ Cols (Hit l q a) r 24 ⌝ }
 {
@@ -92,7 +92,7 @@ pub fn hits_of(l: Loaded, q: Ask, a: usize) -> u32
 }
 
 // Of each job those that interfere with it.
-pub fn all_hits(l: Loaded, q: Ask) -> [u32; 24]
+fn all_hits(l: Loaded, q: Ask) -> [u32; 24]
     ensures { λ r. ⌜ AllHit l q r 24 ⌝ }
 {
     let mut t = [0u32; 24];
@@ -103,7 +103,7 @@ pub fn all_hits(l: Loaded, q: Ask) -> [u32; 24]
 }
 
 // Job j starts by x.
-pub fn start_by(s: State, j: usize, x: u16) -> State
+fn start_by(s: State, j: usize, x: u16) -> State
     requires { ⌜ j < 24 ⌝ }
     ensures { λ r. ⌜ ((P : Search) → High P (view s) j x → Keeps P (view s) (view r)) ⌝ }
 {
@@ -114,7 +114,7 @@ pub fn start_by(s: State, j: usize, x: u16) -> State
 }
 
 // Job j from its estimate to the bound less its duration, or out.
-pub fn root_job(s: State, j: usize, n: usize, est: u16, dur: u16, bound: u16) -> State
+fn root_job(s: State, j: usize, n: usize, est: u16, dur: u16, bound: u16) -> State
     requires { ⌜ j < 24 ⌝ }
     ensures { λ r. ⌜ ((P : Search) → RootJob j n est dur bound P → Keeps P (view s) (view r)) ⌝ }
 {
@@ -129,7 +129,7 @@ pub fn root_job(s: State, j: usize, n: usize, est: u16, dur: u16, bound: u16) ->
 }
 
 // The state that says nothing.
-pub fn blank() -> State
+fn blank() -> State
     ensures { λ r. ⌜ ((P : Search) → P .problem .count ≤ 24 → P .bound < 65535 → FitsAll P r) ⌝ }
 {
     State {
@@ -143,7 +143,7 @@ pub fn blank() -> State
 }
 
 // The state that every valid plan within the bound fits.
-pub fn root(l: Loaded, n: usize, est: [u16; 24], bound: u16) -> State
+fn root(l: Loaded, n: usize, est: [u16; 24], bound: u16) -> State
     ensures { λ r. ⌜ ((P : Search) → Rooted n est (l .durations) bound P → FitsAll P r) ⌝ }
 {
     let mut s = blank();
@@ -154,7 +154,7 @@ pub fn root(l: Loaded, n: usize, est: [u16; 24], bound: u16) -> State
 }
 
 // The search from a state that all valid plans fit, for the first plan where that is wanted.
-pub fn answer_from(
+fn answer_from(
     l: Loaded,
     s: State,
     ask: flaws::Ask,
@@ -175,7 +175,7 @@ pub fn answer_from(
 }
 
 // A valid plan within the bound, the first where that is wanted.
-pub fn plan_at(l: Loaded, q: Ask, est: [u16; 24], bound: u16, first: bool) -> search::Answer
+fn plan_at(l: Loaded, q: Ask, est: [u16; 24], bound: u16, first: bool) -> search::Answer
     requires { ⌜ Ready l q est bound ⌝ }
     ensures { λ r. ⌜ PlanAt (problem l q) bound first r ⌝ }
 {
@@ -196,7 +196,7 @@ pub fn plan_at(l: Loaded, q: Ask, est: [u16; 24], bound: u16, first: bool) -> se
 }
 
 // The sum of the durations of the jobs below n.
-pub fn all_durations(l: Loaded, n: usize) -> u32
+fn all_durations(l: Loaded, n: usize) -> u32
     requires { ⌜ n ≤ 24 ⌝ }
     ensures { λ r. ⌜ r ≡ sum (λ a. getD (l .durations) a 0 + 0) n ⌝ }
 {
@@ -208,7 +208,7 @@ pub fn all_durations(l: Loaded, n: usize) -> u32
 }
 
 // The bound, or the sum of all durations where that is less: more time changes nothing.
-pub fn enough(l: Loaded, q: Ask) -> u16
+fn enough(l: Loaded, q: Ask) -> u16
     requires { ⌜ q .jobs ≤ 24 ⌝ }
     ensures { λ r. ⌜ r ≡ min (q .bound) (sum (λ a. getD (l .durations) a 0 + 0) (q .jobs)) ⌝ }
 {
@@ -221,7 +221,7 @@ pub fn enough(l: Loaded, q: Ask) -> u16
 }
 
 // The later of an end and that of a job, if it is in.
-pub fn later(start: u16, dur: u16, end: u32) -> u32
+fn later(start: u16, dur: u16, end: u32) -> u32
     ensures { λ r. ⌜ Later start dur end r ⌝ }
 {
     if start == 65535 {
@@ -235,7 +235,7 @@ pub fn later(start: u16, dur: u16, end: u32) -> u32
 }
 
 // Where the last job ends.
-pub fn last_end(l: Loaded, n: usize, starts: [u16; 24]) -> u32
+fn last_end(l: Loaded, n: usize, starts: [u16; 24]) -> u32
     requires { ⌜ n ≤ 24 ⌝ }
     ensures { λ r. ⌜ ((q : Ask) → LastEnd (problem l q) (planOf starts) n r) ⌝ }
 {
@@ -247,7 +247,7 @@ pub fn last_end(l: Loaded, n: usize, starts: [u16; 24]) -> u32
 }
 
 // The half of the range that holds the least bound.
-pub fn halve(l: Loaded, q: Ask, est: [u16; 24], low: u16, high: u16) -> Range
+fn halve(l: Loaded, q: Ask, est: [u16; 24], low: u16, high: u16) -> Range
     requires { ⌜ Ready l q est high × ((low < high) × Between (problem l q) low high) ⌝ }
     ensures { λ r. ⌜ Halved (problem l q) low high r ⌝ }
 {
@@ -266,7 +266,7 @@ pub fn halve(l: Loaded, q: Ask, est: [u16; 24], low: u16, high: u16) -> Range
 }
 
 // The least bound up to one that has a plan.
-pub fn narrow(l: Loaded, q: Ask, est: [u16; 24], top: u16) -> u16
+fn narrow(l: Loaded, q: Ask, est: [u16; 24], top: u16) -> u16
     requires { ⌜ Ready l q est top × Between (problem l q) 0 top ⌝ }
     ensures { λ r. ⌜ LeastAt (problem l q) top r ⌝ }
 {
@@ -281,7 +281,7 @@ pub fn narrow(l: Loaded, q: Ask, est: [u16; 24], top: u16) -> u16
 }
 
 // The least bound up to top, with the first plan at it.
-pub fn least_of(l: Loaded, q: Ask, est: [u16; 24], top: u16) -> Least
+fn least_of(l: Loaded, q: Ask, est: [u16; 24], top: u16) -> Least
     requires { ⌜ Ready l q est top ⌝ }
     ensures { λ r. ⌜ LeastOf (problem l q) top r ⌝ }
 {
@@ -307,7 +307,7 @@ pub fn least_of(l: Loaded, q: Ask, est: [u16; 24], top: u16) -> Least
 }
 
 // Checks 3 to 9, where `room` starts are lent.
-pub fn planning_fault(l: Loaded, q: Ask, room: usize) -> Answer
+fn planning_fault(l: Loaded, q: Ask, room: usize) -> Answer
     ensures { λ r. ⌜ Judges (planningChecks l q room accepted) (Plannable l q room) r ⌝ }
 {
     let n = q.jobs;

@@ -13,7 +13,7 @@ ghost use Rattle.prune.specs.Prune.{Spares, SparesAll, StartAll, Single,
 use orders::State;
 
 // No plan is left: a job inside and barred.
-pub fn kill(s: State) -> State
+fn kill(s: State) -> State
     ensures { λ r. ⌜ ((P : Search) → Dead P (view s) → Keeps P (view s) (view r)) ⌝ }
 {
     let t = orders::put_inside(s, 0);
@@ -21,7 +21,7 @@ pub fn kill(s: State) -> State
 }
 
 // The fact p of the consumer b has no candidate.
-pub fn none_left(s: State, b: usize) -> State
+fn none_left(s: State, b: usize) -> State
     requires { ⌜ b ≤ 24 ⌝ }
     ensures { λ r. ⌜ ((P : Search) (p : ℕ) → InOrder (P .problem) → Wants P (who b) p → NoMay P s p b → Keeps P (view s) (view r)) ⌝ }
 {
@@ -32,7 +32,7 @@ pub fn none_left(s: State, b: usize) -> State
 }
 
 // The candidates as a word.
-pub fn cands(s: State, b: usize, adders: u32, dang: u32) -> u32
+fn cands(s: State, b: usize, adders: u32, dang: u32) -> u32
     requires { ⌜ b ≤ 24 ⌝ }
     ensures { λ r. ⌜ ((P : Search) (p R : ℕ) → Scene P s p b adders dang R → Cols (MayJob P (view s) p (who b)) r 24) ⌝ }
 {
@@ -45,7 +45,7 @@ pub fn cands(s: State, b: usize, adders: u32, dang: u32) -> u32
 }
 
 // Job a is the support of b in every plan left, and d kills its fact.
-pub fn spare(s: State, b: usize, a: usize, d: usize) -> State
+fn spare(s: State, b: usize, a: usize, d: usize) -> State
     requires { ⌜ (b ≤ 24) × ((a < 24) × (d < 24)) ⌝ }
     ensures { λ r. ⌜ ((P : Search) (p : ℕ) → Spares P s b a p → deletes (P .problem) d p → d ≢ b → Keeps P (view s) (view r)) ⌝ }
 {
@@ -63,7 +63,7 @@ pub fn spare(s: State, b: usize, a: usize, d: usize) -> State
 }
 
 // The same, if d is another job that deletes the fact.
-pub fn spare_if(s: State, b: usize, a: usize, kills: u32, d: usize) -> State
+fn spare_if(s: State, b: usize, a: usize, kills: u32, d: usize) -> State
     requires { ⌜ (b ≤ 24) × ((a < 24) × (d < 24)) ⌝ }
     ensures { λ r. ⌜ SparesAll s b a kills r ⌝ }
 {
@@ -77,7 +77,7 @@ pub fn spare_if(s: State, b: usize, a: usize, kills: u32, d: usize) -> State
 }
 
 // The same for all jobs that delete it.
-pub fn spare_all(s: State, b: usize, a: usize, kills: u32) -> State
+fn spare_all(s: State, b: usize, a: usize, kills: u32) -> State
     requires { ⌜ (b ≤ 24) × (a < 24) ⌝ }
     ensures { λ r. ⌜ SparesAll s b a kills r ⌝ }
 {
@@ -89,7 +89,7 @@ pub fn spare_all(s: State, b: usize, a: usize, kills: u32) -> State
 }
 
 // The single candidate a of the consumer b, which is there.
-pub fn take_only(s: State, b: usize, a: usize, kills: u32) -> State
+fn take_only(s: State, b: usize, a: usize, kills: u32) -> State
     requires { ⌜ (b ≤ 24) × (a < 24) ⌝ }
     ensures { λ r. ⌜ SparesAll s b a kills r ⌝ }
 {
@@ -102,7 +102,7 @@ pub fn take_only(s: State, b: usize, a: usize, kills: u32) -> State
 }
 
 // Start alone gives the fact to b: a job d that deletes it comes after b, or is out for End.
-pub fn start_if(s: State, b: usize, kills: u32, d: usize) -> State
+fn start_if(s: State, b: usize, kills: u32, d: usize) -> State
     requires { ⌜ (b ≤ 24) × (d < 24) ⌝ }
     ensures { λ r. ⌜ StartAll s b kills r ⌝ }
 {
@@ -119,7 +119,7 @@ pub fn start_if(s: State, b: usize, kills: u32, d: usize) -> State
 }
 
 // The same for all jobs that delete it.
-pub fn start_all(s: State, b: usize, kills: u32) -> State
+fn start_all(s: State, b: usize, kills: u32) -> State
     requires { ⌜ b ≤ 24 ⌝ }
     ensures { λ r. ⌜ StartAll s b kills r ⌝ }
 {
@@ -131,7 +131,7 @@ pub fn start_all(s: State, b: usize, kills: u32) -> State
 }
 
 // The one bit of w, or 24 if there is none or another.
-pub fn single(w: u32) -> usize
+fn single(w: u32) -> usize
     ensures { λ r. ⌜ Single w r ⌝ }
 {
     let d = flaws::lack(w, 0);
@@ -147,7 +147,7 @@ pub fn single(w: u32) -> usize
 }
 
 // The smaller of two numbers, if the second counts.
-pub fn min_if(m: u32, x: u32, hit: bool) -> u32
+fn min_if(m: u32, x: u32, hit: bool) -> u32
     ensures { λ r. ⌜ MinIf m x r hit ⌝ }
 {
     if !hit {
@@ -160,7 +160,7 @@ pub fn min_if(m: u32, x: u32, hit: bool) -> u32
 }
 
 // Where job a of this length finishes at the earliest.
-pub fn lo_plus(s: State, a: usize, step: u16) -> u32
+fn lo_plus(s: State, a: usize, step: u16) -> u32
     requires { ⌜ a < 24 ⌝ }
     ensures { λ r. ⌜ r ≡ getD (s .lo) a 0 + step ⌝ }
 {
@@ -168,7 +168,7 @@ pub fn lo_plus(s: State, a: usize, step: u16) -> u32
 }
 
 // Where the first of the candidates finishes at the earliest.
-pub fn least_of(s: State, w: u32, steps: &[u16]) -> u32
+fn least_of(s: State, w: u32, steps: &[u16]) -> u32
     requires { ⌜ length (now steps) ≡ 24 ⌝ }
     ensures { λ r. ⌜ LeastOf s (now (steps .entry)) w 24 r ⌝ }
 {
@@ -196,7 +196,7 @@ pub fn wait_for(s: State, b: usize, x: u32) -> State
 }
 
 // The consumer b waits for the first of its candidates.
-pub fn wait(s: State, b: usize, w: u32, steps: &[u16]) -> State
+fn wait(s: State, b: usize, w: u32, steps: &[u16]) -> State
     requires { ⌜ (b ≤ 24) × (length (now steps) ≡ 24) ⌝ }
     ensures { λ r. ⌜ ((P : Search) (p kills : ℕ) → Told P s p b kills w → AllTakes (now (steps .entry)) P → (MayStart P (view s) p (who b) → ⊥) → Keeps P (view s) (view r)) ⌝ }
 {
@@ -208,7 +208,7 @@ pub fn wait(s: State, b: usize, w: u32, steps: &[u16]) -> State
 }
 
 // The consumer b is surely there.
-pub fn there_for(s: State, b: usize) -> bool
+fn there_for(s: State, b: usize) -> bool
     requires { ⌜ b ≤ 24 ⌝ }
     ensures { λ r. ⌜ r ≡ there (view s) (who b) ⌝ }
 {
@@ -219,7 +219,7 @@ pub fn there_for(s: State, b: usize) -> bool
 }
 
 // The rules on candidates where Start gives no support.
-pub fn without_start(s: State, b: usize, w: u32, kills: u32, steps: &[u16]) -> State
+fn without_start(s: State, b: usize, w: u32, kills: u32, steps: &[u16]) -> State
     requires { ⌜ (b ≤ 24) × (length (now steps) ≡ 24) ⌝ }
     ensures { λ r. ⌜ ((P : Search) (p : ℕ) → Told P s p b kills w → AllTakes (now (steps .entry)) P → (MayStart P (view s) p (who b) → ⊥) → Keeps P (view s) (view r)) ⌝ }
 {
@@ -238,7 +238,7 @@ pub fn without_start(s: State, b: usize, w: u32, kills: u32, steps: &[u16]) -> S
 }
 
 // The rule on Start where no job is a candidate.
-pub fn with_start(s: State, b: usize, w: u32, kills: u32) -> State
+fn with_start(s: State, b: usize, w: u32, kills: u32) -> State
     requires { ⌜ b ≤ 24 ⌝ }
     ensures { λ r. ⌜ ((P : Search) (p : ℕ) → Told P s p b kills w → Keeps P (view s) (view r)) ⌝ }
 {
@@ -252,7 +252,7 @@ pub fn with_start(s: State, b: usize, w: u32, kills: u32) -> State
 }
 
 // The rules on supports for the fact p of the consumer b.
-pub fn condition_rule(
+fn condition_rule(
     s: State,
     b: usize,
     p: usize,
@@ -277,7 +277,7 @@ pub fn condition_rule(
 }
 
 // The same, if p is a fact of the word.
-pub fn condition_if(
+fn condition_if(
     s: State,
     b: usize,
     word: u64,
@@ -297,7 +297,7 @@ pub fn condition_if(
 }
 
 // The same for all facts of the word.
-pub fn conditions_rule(
+fn conditions_rule(
     s: State,
     b: usize,
     word: u64,
@@ -317,7 +317,7 @@ pub fn conditions_rule(
 }
 
 // The same for the conditions of a job, or the goals.
-pub fn consumer_rule(
+fn consumer_rule(
     s: State,
     b: usize,
     ask: flaws::Ask,
@@ -336,7 +336,7 @@ pub fn consumer_rule(
 }
 
 // The rules on supports for all consumers.
-pub fn supports_rule(
+fn supports_rule(
     s: State,
     ask: flaws::Ask,
     conds: &[u64],
@@ -392,7 +392,7 @@ fn same(s: State, t: State) -> bool {
 }
 
 // Every rule once.
-pub fn round(
+fn round(
     s: State,
     ask: flaws::Ask,
     conds: &[u64],

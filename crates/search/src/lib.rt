@@ -22,7 +22,7 @@ pub struct Answer {
 }
 
 // The first repair: the job is in.
-pub fn take_job(s: State, x: usize) -> State
+fn take_job(s: State, x: usize) -> State
     requires { ⌜ FreeJob s x ⌝ }
     ensures { λ r. ⌜ Tries (IsIn x) s r ⌝ }
 {
@@ -30,7 +30,7 @@ pub fn take_job(s: State, x: usize) -> State
 }
 
 // The second repair: the job is out.
-pub fn drop_job(s: State, x: usize) -> State
+fn drop_job(s: State, x: usize) -> State
     requires { ⌜ FreeJob s x ⌝ }
     ensures { λ r. ⌜ Tries (IsOut x) s r ⌝ }
 {
@@ -38,7 +38,7 @@ pub fn drop_job(s: State, x: usize) -> State
 }
 
 // The first repair: x is over before y.
-pub fn take_pair(s: State, x: usize, y: usize) -> State
+fn take_pair(s: State, x: usize, y: usize) -> State
     requires { ⌜ FreePair s x y ⌝ }
     ensures { λ r. ⌜ Tries (Before x y) s r ⌝ }
 {
@@ -47,7 +47,7 @@ pub fn take_pair(s: State, x: usize, y: usize) -> State
 }
 
 // The second repair: x is not over before y.
-pub fn drop_pair(s: State, x: usize, y: usize) -> State
+fn drop_pair(s: State, x: usize, y: usize) -> State
     requires { ⌜ FreePair s x y ⌝ }
     ensures { λ r. ⌜ Tries (NotBefore x y) s r ⌝ }
 {
@@ -55,7 +55,7 @@ pub fn drop_pair(s: State, x: usize, y: usize) -> State
 }
 
 // a is over before b, both are in, and b may start too early for that.
-pub fn violated_at(s: State, a: usize, b: usize, step: u16) -> bool
+fn violated_at(s: State, a: usize, b: usize, step: u16) -> bool
     requires { ⌜ (a < 24) × (b < 24) ⌝ }
     ensures { λ r. ⌜ Decides r (Violated s a b step) ⌝ }
 {
@@ -75,7 +75,7 @@ pub fn violated_at(s: State, a: usize, b: usize, step: u16) -> bool
 }
 
 // Such a job a for b.
-pub fn violated_row(s: State, b: usize, steps: &[u16]) -> Choice
+fn violated_row(s: State, b: usize, steps: &[u16]) -> Choice
     requires { ⌜ (b < 24) × (length (now steps) ≡ 24) ⌝ }
     ensures { λ r. ⌜ Finds s (now (steps .entry)) (RowSteady s (now (steps .entry)) b 24) r ⌝ }
 {
@@ -98,7 +98,7 @@ pub fn violated_row(s: State, b: usize, steps: &[u16]) -> Choice
 }
 
 // Such a pair of jobs.
-pub fn violated(s: State, steps: &[u16]) -> Choice
+fn violated(s: State, steps: &[u16]) -> Choice
     requires { ⌜ length (now steps) ≡ 24 ⌝ }
     ensures { λ r. ⌜ Finds s (now (steps .entry)) (Steady s (now (steps .entry)) 24) r ⌝ }
 {
@@ -117,7 +117,7 @@ pub fn violated(s: State, steps: &[u16]) -> Choice
 }
 
 // b starts when a is over, if it still may.
-pub fn raise(s: State, a: usize, b: usize, step: u16) -> Settled
+fn raise(s: State, a: usize, b: usize, step: u16) -> Settled
     requires { ⌜ (a < 24) × ((b < 24) × Violated s a b step) ⌝ }
     ensures { λ r. ⌜ Raised s a step r ⌝ }
 {
@@ -133,7 +133,7 @@ pub fn raise(s: State, a: usize, b: usize, step: u16) -> Settled
 }
 
 // The least starts over the sure pairs, as lower bounds.
-pub fn settle(s: State, steps: &[u16]) -> Settled
+fn settle(s: State, steps: &[u16]) -> Settled
     requires { ⌜ length (now steps) ≡ 24 ⌝ }
     ensures { λ r. ⌜ SettledBy s (now (steps .entry)) r ⌝ }
 {
@@ -158,7 +158,7 @@ pub fn settle(s: State, steps: &[u16]) -> Settled
 }
 
 // Job j is out, or of the table and over by the bound within its window.
-pub fn stands_at(s: State, j: usize, dur: u16, bound: u16, count: usize) -> bool
+fn stands_at(s: State, j: usize, dur: u16, bound: u16, count: usize) -> bool
     requires { ⌜ j < 24 ⌝ }
     ensures { λ r. ⌜ Checks (Ends j dur bound count) s r (StandsIf s j dur bound count) ⌝ }
 {
@@ -178,7 +178,7 @@ pub fn stands_at(s: State, j: usize, dur: u16, bound: u16, count: usize) -> bool
 }
 
 // The same of all jobs.
-pub fn stand_all(s: State, steps: &[u16], ask: Ask) -> bool
+fn stand_all(s: State, steps: &[u16], ask: Ask) -> bool
     requires { ⌜ length (now steps) ≡ 24 ⌝ }
     ensures { λ r. ⌜ Checks (EndsAll (now (steps .entry)) ask) s r (AllStand s (now (steps .entry)) ask 24) ⌝ }
 {
@@ -192,14 +192,14 @@ pub fn stand_all(s: State, steps: &[u16], ask: Ask) -> bool
 }
 
 // No bit from 24 on.
-pub fn no_stray(w: u32) -> bool
+fn no_stray(w: u32) -> bool
     ensures { λ r. ⌜ Decides r ((j : ℕ) → T (has w j) → j < 24) ⌝ }
 {
     w < 16777216
 }
 
 // The start of job j: its lower bound, or 65,535.
-pub fn start_at(s: State, j: usize) -> u16
+fn start_at(s: State, j: usize) -> u16
     requires { ⌜ j < 24 ⌝ }
     ensures { λ r. ⌜ r ≡ startOf (has (s .inside) j) (getD (s .lo) j 0) ⌝ }
 {
@@ -210,7 +210,7 @@ pub fn start_at(s: State, j: usize) -> u16
 }
 
 // The starts of all jobs.
-pub fn starts(s: State) -> [u16; 24]
+fn starts(s: State) -> [u16; 24]
     ensures { λ r. ⌜ (length r ≡ 24) × ((j : ℕ) → j < 24 → getD r j 65535 ≡ startOf (has (s .inside) j) (getD (s .lo) j 0)) ⌝ }
 {
     let mut q = [65535u16; 24];
@@ -221,7 +221,7 @@ pub fn starts(s: State) -> [u16; 24]
 }
 
 // A state without a flaw whose lower bounds are settled: they are a plan, or nothing fits.
-pub fn leaf(
+fn leaf(
     s: State,
     ask: Ask,
     conds: &[u64],

@@ -58,7 +58,7 @@ pub fn word_strays(w: u64, atoms: usize) -> bool
 }
 
 // n is not 1 to most.
-pub fn outside(n: u16, most: u16) -> bool
+fn outside(n: u16, most: u16) -> bool
     ensures { λ r. ⌜ r ≡ not (between 1 most n) ⌝ }
 {
     if n < 1 {
@@ -68,7 +68,7 @@ pub fn outside(n: u16, most: u16) -> bool
 }
 
 // The lowest job with a duration that is not 1 to 960, or n.
-pub fn first_duration(l: Loaded, q: Ask) -> usize
+fn first_duration(l: Loaded, q: Ask) -> usize
     requires { ⌜ q .jobs ≤ 24 ⌝ }
     ensures { λ r. ⌜ r ≡ least (λ i. not (between 1 960 (problem l q .duration i))) (q .jobs) ⌝ }
 {
@@ -82,7 +82,7 @@ pub fn first_duration(l: Loaded, q: Ask) -> usize
 }
 
 // Job i has a fact at or above the atom count.
-pub fn job_strays(l: Loaded, q: Ask, i: usize) -> bool
+fn job_strays(l: Loaded, q: Ask, i: usize) -> bool
     requires { ⌜ (i < 24) × (q .atoms ≤ 64) ⌝ }
     ensures { λ r. ⌜ Tests (jobStrays (problem l q) i) (JobBelow (problem l q) i) r ⌝ }
 {
@@ -92,7 +92,7 @@ pub fn job_strays(l: Loaded, q: Ask, i: usize) -> bool
 }
 
 // The lowest job that has one, or n.
-pub fn first_stray(l: Loaded, q: Ask) -> usize
+fn first_stray(l: Loaded, q: Ask) -> usize
     requires { ⌜ (q .jobs ≤ 24) × (q .atoms ≤ 64) ⌝ }
     ensures { λ r. ⌜ Finds (jobStrays (problem l q)) (q .jobs) ((i : ℕ) → i < q .jobs → JobBelow (problem l q) i) r ⌝ }
 {
@@ -106,7 +106,7 @@ pub fn first_stray(l: Loaded, q: Ask) -> usize
 }
 
 // The opening facts or the goals have a fact at or above the atom count.
-pub fn edges_stray(q: Ask) -> bool
+fn edges_stray(q: Ask) -> bool
     requires { ⌜ q .atoms ≤ 64 ⌝ }
     ensures { λ r. ⌜ Tests (strays (q .atoms) (q .opening) || strays (q .atoms) (q .goals)) (Below (q .atoms) (q .goals)) r ⌝ }
 {
@@ -115,7 +115,7 @@ pub fn edges_stray(q: Ask) -> bool
 }
 
 // Job i adds and deletes one fact.
-pub fn job_undoes(l: Loaded, q: Ask, i: usize) -> bool
+fn job_undoes(l: Loaded, q: Ask, i: usize) -> bool
     requires { ⌜ i < 24 ⌝ }
     ensures { λ r. ⌜ r ≡ undoes (problem l q) i ⌝ }
 {
@@ -123,7 +123,7 @@ pub fn job_undoes(l: Loaded, q: Ask, i: usize) -> bool
 }
 
 // The lowest job that does, or n.
-pub fn first_undone(l: Loaded, q: Ask) -> usize
+fn first_undone(l: Loaded, q: Ask) -> usize
     requires { ⌜ q .jobs ≤ 24 ⌝ }
     ensures { λ r. ⌜ r ≡ least (undoes (problem l q)) (q .jobs) ⌝ }
 {
@@ -149,7 +149,7 @@ pub fn refuse(number: u8, place: u16, value: u32) -> Answer
 }
 
 // Checks 6 to 8.
-pub fn jobs_fault(l: Loaded, q: Ask) -> Answer
+fn jobs_fault(l: Loaded, q: Ask) -> Answer
     requires { ⌜ (q .jobs ≤ 24) × (q .atoms ≤ 64) ⌝ }
     ensures { λ r. ⌜ Judges (jobChecks (problem l q) accepted) (Narrow (problem l q)) r ⌝ }
 {

@@ -17,7 +17,7 @@ ghost use Rattle.tables.specs.Tables.{problem, answer};
 ghost use Rattle.verdict.specs.Offered.{offered, Offered, Given, FactsAt, chosen, Nearer, Next};
 
 // A job that deletes these facts deletes a condition or an addition of the other.
-pub fn spoils(deletions: u64, conditions: u64, additions: u64) -> bool
+fn spoils(deletions: u64, conditions: u64, additions: u64) -> bool
     ensures { λ r. ⌜ r ≡ any (λ p. has deletions p && (has conditions p || has additions p)) 64 ⌝ }
 {
     facts::meets(deletions, conditions | additions)
@@ -38,14 +38,14 @@ pub fn interferes(l: Loaded, i: usize, j: usize) -> bool
 }
 
 // The job is in and finishes at t.
-pub fn ends_at(start: u16, duration: u16, t: u32) -> bool
+fn ends_at(start: u16, duration: u16, t: u32) -> bool
     ensures { λ r. ⌜ r ≡ (chosen start && eqb (start + duration) t) ⌝ }
 {
     start != 65535 && start as u32 + duration as u32 == t
 }
 
 // The facts after a job that finishes now, or as they were.
-pub fn after_job(state: u64, additions: u64, deletions: u64, now: bool) -> u64
+fn after_job(state: u64, additions: u64, deletions: u64, now: bool) -> u64
     ensures { λ r. ⌜ Word (λ p. afterIf now (has additions p) (has deletions p) (has state p)) r ⌝ }
 {
     if now {
@@ -55,7 +55,7 @@ pub fn after_job(state: u64, additions: u64, deletions: u64, now: bool) -> u64
 }
 
 // The facts after all finishes at t, in the order of the jobs' numbers.
-pub fn after_finishes(l: Loaded, q: Ask, s: &[u16], t: u32, before: u64) -> u64
+fn after_finishes(l: Loaded, q: Ask, s: &[u16], t: u32, before: u64) -> u64
     requires { ⌜ Given q (now s) ⌝ }
     ensures { λ r. ⌜ Word (λ p. finishes (problem l q) (starts (now (s .entry))) p t (q .jobs) (has before p)) r ⌝ }
 {
@@ -69,7 +69,7 @@ pub fn after_finishes(l: Loaded, q: Ask, s: &[u16], t: u32, before: u64) -> u64
 }
 
 // The job's finish where it comes after `from` and before best, else best.
-pub fn nearer(start: u16, duration: u16, from: u32, best: u32) -> u32
+fn nearer(start: u16, duration: u16, from: u32, best: u32) -> u32
     ensures { λ r. ⌜ Nearer start duration from best r ⌝ }
 {
     let end = start as u32 + duration as u32;
@@ -86,7 +86,7 @@ pub fn nearer(start: u16, duration: u16, from: u32, best: u32) -> u32
 }
 
 // The next finish after `from` and before till, or till.
-pub fn next_finish(l: Loaded, q: Ask, s: &[u16], from: u32, till: u32) -> u32
+fn next_finish(l: Loaded, q: Ask, s: &[u16], from: u32, till: u32) -> u32
     requires { ⌜ Given q (now s) × (from < till) ⌝ }
     ensures { λ r. ⌜ Next (problem l q) (starts (now (s .entry))) from till r ⌝ }
 {
@@ -99,7 +99,7 @@ pub fn next_finish(l: Loaded, q: Ask, s: &[u16], from: u32, till: u32) -> u32
 }
 
 // The facts at time t: from finish to finish, so that hours in which nothing ends cost nothing.
-pub fn facts_at(l: Loaded, q: Ask, s: &[u16], t: u16) -> u64
+fn facts_at(l: Loaded, q: Ask, s: &[u16], t: u16) -> u64
     requires { ⌜ Given q (now s) ⌝ }
     ensures { λ r. ⌜ FactsAt (problem l q) (starts (now (s .entry))) t r ⌝ }
 {
@@ -114,14 +114,14 @@ pub fn facts_at(l: Loaded, q: Ask, s: &[u16], t: u16) -> u64
 }
 
 // The job is in and ends after t.
-pub fn ends_after(start: u16, duration: u16, t: u16) -> bool
+fn ends_after(start: u16, duration: u16, t: u16) -> bool
     ensures { λ r. ⌜ r ≡ (chosen start && ltb t (start + duration)) ⌝ }
 {
     start != 65535 && (t as u32) < start as u32 + duration as u32
 }
 
 // The lowest job that ends after the bound, or the job count.
-pub fn first_late(l: Loaded, q: Ask, s: &[u16]) -> usize
+fn first_late(l: Loaded, q: Ask, s: &[u16]) -> usize
     requires { ⌜ Given q (now s) ⌝ }
     ensures { λ r. ⌜ r ≡ least (late (problem l q) (q .bound) (starts (now (s .entry)))) (q .jobs) ⌝ }
 {
@@ -135,14 +135,14 @@ pub fn first_late(l: Loaded, q: Ask, s: &[u16]) -> usize
 }
 
 // Both jobs are in, and each starts before the other finishes: touching is not that.
-pub fn together(a: u16, a_long: u16, b: u16, b_long: u16) -> bool
+fn together(a: u16, a_long: u16, b: u16, b_long: u16) -> bool
     ensures { λ r. ⌜ r ≡ ((chosen a && ltb b (a + «a_long»)) && (chosen b && ltb a (b + «b_long»))) ⌝ }
 {
     ends_after(a, a_long, b) && ends_after(b, b_long, a)
 }
 
 // Jobs i and j overlap and interfere.
-pub fn overlap(l: Loaded, s: &[u16], i: usize, j: usize) -> bool
+fn overlap(l: Loaded, s: &[u16], i: usize, j: usize) -> bool
     requires { ⌜ (i < 24) × (j < 24) × (i < length (now s)) × (j < length (now s)) ⌝ }
     ensures { λ r. ⌜ ((q : Ask) → r ≡ overlap (problem l q) (starts (now (s .entry))) i j) ⌝ }
 {
@@ -153,7 +153,7 @@ pub fn overlap(l: Loaded, s: &[u16], i: usize, j: usize) -> bool
 }
 
 // Job i overlaps and interferes with a job of a higher number.
-pub fn clashes(l: Loaded, q: Ask, s: &[u16], i: usize) -> bool
+fn clashes(l: Loaded, q: Ask, s: &[u16], i: usize) -> bool
     requires { ⌜ Given q (now s) × (i < q .jobs) ⌝ }
     ensures { λ r. ⌜ r ≡ clashes (problem l q) (starts (now (s .entry))) i ⌝ }
 {
@@ -167,7 +167,7 @@ pub fn clashes(l: Loaded, q: Ask, s: &[u16], i: usize) -> bool
 }
 
 // The lowest job that does, or the job count.
-pub fn first_clash(l: Loaded, q: Ask, s: &[u16]) -> usize
+fn first_clash(l: Loaded, q: Ask, s: &[u16]) -> usize
     requires { ⌜ Given q (now s) ⌝ }
     ensures { λ r. ⌜ r ≡ least (clashes (problem l q) (starts (now (s .entry)))) (q .jobs) ⌝ }
 {
@@ -181,14 +181,14 @@ pub fn first_clash(l: Loaded, q: Ask, s: &[u16]) -> usize
 }
 
 // The lowest fact that is wanted and not there, 64 for none.
-pub fn first_lacking(have: u64, want: u64) -> u32
+fn first_lacking(have: u64, want: u64) -> u32
     ensures { λ r. ⌜ r ≡ least (λ p. has want p && not (has have p)) 64 ⌝ }
 {
     facts::lowest(want & !have)
 }
 
 // Job i is in and misses a condition at its start.
-pub fn unready(l: Loaded, q: Ask, s: &[u16], i: usize) -> bool
+fn unready(l: Loaded, q: Ask, s: &[u16], i: usize) -> bool
     requires { ⌜ Given q (now s) × (i < q .jobs) ⌝ }
     ensures { λ r. ⌜ r ≡ unready (problem l q) (starts (now (s .entry))) i ⌝ }
 {
@@ -200,7 +200,7 @@ pub fn unready(l: Loaded, q: Ask, s: &[u16], i: usize) -> bool
 }
 
 // The lowest job that does, or the job count.
-pub fn first_unready(l: Loaded, q: Ask, s: &[u16]) -> usize
+fn first_unready(l: Loaded, q: Ask, s: &[u16]) -> usize
     requires { ⌜ Given q (now s) ⌝ }
     ensures { λ r. ⌜ r ≡ least (unready (problem l q) (starts (now (s .entry)))) (q .jobs) ⌝ }
 {
@@ -214,7 +214,7 @@ pub fn first_unready(l: Loaded, q: Ask, s: &[u16]) -> usize
 }
 
 // The lowest goal that is missing at the bound, 64 for none.
-pub fn first_missing(l: Loaded, q: Ask, s: &[u16]) -> u32
+fn first_missing(l: Loaded, q: Ask, s: &[u16]) -> u32
     requires { ⌜ Given q (now s) ⌝ }
     ensures { λ r. ⌜ r ≡ least (missing (problem l q) (q .bound) (starts (now (s .entry)))) 64 ⌝ }
 {
@@ -222,7 +222,7 @@ pub fn first_missing(l: Loaded, q: Ask, s: &[u16]) -> u32
 }
 
 // Checks 11 to 14.
-pub fn steps_fault(l: Loaded, q: Ask, s: &[u16]) -> Answer
+fn steps_fault(l: Loaded, q: Ask, s: &[u16]) -> Answer
     requires { ⌜ Given q (now s) ⌝ }
     ensures { λ r. ⌜ r ≡ answer (planChecks (problem l q) (q .bound) (starts (now (s .entry))) accepted) 0 0 ⌝ }
 {

@@ -1,0 +1,6 @@
+pub mod Written
+pub mod Refute
+pub mod Refuted
+pub mod Firsts
+pub mod Shown
+pub mod Cases

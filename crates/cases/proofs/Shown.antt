@@ -1,0 +1,153 @@
+-- Each kind of claim, from tests that are computed.
+-- Assumes nothing.
+use mathlib.Core.Path.{_≡_, refl, sym, _∙_, ap, subst}
+use mathlib.Core.Logic.{inl, inr, _↔_}
+use mathlib.Core.Bool.{Bool, not, _&&_}
+use Prim.Native.Nat.{ℕ, _-_, _^_, _≤_, _<_}
+use native.Mathlib.Omega.{arith}
+use lib.Dec.{T, eqb, ltb, eqb→eq, ltb→lt, T-not}
+use lib.Ieee.{Float}
+use lib.IntN.{ℤ}
+use Rattle.facts.specs.Least.{any}
+use Rattle.facts.proofs.Bools.{and-l, and-r, certain}
+use Rattle.facts.proofs.Least.{any-of}
+use Rattle.facts.proofs.Sets.{has-lt}
+use Rattle.rules.specs.Refusals.{Verdict, accepted, refused}
+use Rattle.rules.specs.Table.{Problem, InOrder, Below, tableChecks, boundCheck}
+use Rattle.rules.specs.Plans.{Plan, inPlan, In, finish, interfere, Valid}
+use Rattle.rules.specs.Verdicts.{planChecks}
+use Rattle.rules.specs.Order.{First, LeastBound, NoPlan, Planned, Bounded}
+use Rattle.rules.proofs.Refused.{Checks, then-checks, table-checks, bound-checks, went-on, stopped, if-pass}
+use Rattle.rules.proofs.Checked.{in-order}
+use Rattle.rules.proofs.Judged.{judged}
+use Rattle.rules.proofs.Orders.{wider, planned-only, bounded-only}
+use Rattle.tenths.specs.Tenths.{inRange, AreTenths, tenths}
+use Rattle.tenths.proofs.Largest.{tenths-are}
+use Rattle.cases.specs.Claims.{checks, Taken, Refused, Plans, Refuses10, Least, Judged, Touch, HasTenths}
+use Rattle.cases.proofs.Refute.{hopeless}
+use Rattle.cases.proofs.Firsts.{noneBefore, none, first, below-least}
+
+-- ── tables in order ──
+
+-- the conditions and deletions of job i are below the atom count, and it has no release
+unfoldable pub tidyJob : Problem → ℕ → Bool
+tidyJob P i = ltb (P .conditions i) (2 ^ P .atoms) && (ltb (P .deletions i) (2 ^ P .atoms) && eqb (P .release i) 0)
+
+-- so of all jobs, and of the goals
+unfoldable pub tidy : Problem → Bool
+tidy P = ltb (P .goals) (2 ^ P .atoms) && not (any (λ i. not (tidyJob P i)) (P .count))
+
+-- what a tidy table gives the laws
+module _ (P : Problem) (t : T (tidy P)) where
+  tidy-goals : Below (P .atoms) (P .goals)
+  unfolding tidy
+  tidy-goals p = has-lt (P .atoms) (P .goals) p (ltb→lt (P .goals) (2 ^ P .atoms) (and-l (ltb (P .goals) (2 ^ P .atoms)) _ t))
+
+  tidy-at : (i : ℕ) → i < P .count → T (tidyJob P i)
+  unfolding tidy
+  tidy-at i l = certain (tidyJob P i)
+      (λ n. T-not (any (λ j. not (tidyJob P j)) (P .count)) (and-r (ltb (P .goals) (2 ^ P .atoms)) _ t) (any-of (λ j. not (tidyJob P j)) (P .count) i l n))
+
+  needed : (i : ℕ) → i < P .count → Below (P .atoms) (P .conditions i)
+  unfolding tidyJob
+  needed i l p = has-lt (P .atoms) (P .conditions i) p (ltb→lt (P .conditions i) (2 ^ P .atoms) (and-l (ltb (P .conditions i) (2 ^ P .atoms)) _ (tidy-at i l)))
+
+  rest : (i : ℕ) → i < P .count → T (ltb (P .deletions i) (2 ^ P .atoms) && eqb (P .release i) 0)
+  unfolding tidyJob
+  rest i l = and-r (ltb (P .conditions i) (2 ^ P .atoms)) _ (tidy-at i l)
+
+  deleted : (i : ℕ) → i < P .count → Below (P .atoms) (P .deletions i)
+  deleted i l p = has-lt (P .atoms) (P .deletions i) p (ltb→lt (P .deletions i) (2 ^ P .atoms) (and-l (ltb (P .deletions i) (2 ^ P .atoms)) _ (rest i l)))
+
+  released : (s : Plan) (i : ℕ) → In P s i → P .release i ≤ s i
+  released s i k = omega (arith, eqb→eq (P .release i) 0 (and-r (ltb (P .deletions i) (2 ^ P .atoms)) _ (rest i (k .below))))
+
+-- ── checks 4 to 9 ──
+
+-- what the checks do with nothing behind them they do whatever is behind them
+pub takes-ok : {P : Problem} {bound : ℕ} → checks P bound accepted ≡ accepted → Taken P bound
+takes-ok {P} {bound} e = record { goes-on = went-on (checks P bound) (then-checks (table-checks P) (bound-checks bound)) (ap (λ (v : Verdict). v .number) e) }
+
+pub refuses-ok : {P : Problem} {bound number place : ℕ} → 0 < number → checks P bound accepted ≡ refused number place → Refused P bound number place
+refuses-ok {P} {bound} {number} {place} l e = record { stops = λ next. stopped (checks P bound) (then-checks (table-checks P) (bound-checks bound)) some next ∙ e }
+  where
+    some : checks P bound accepted .number ≡ 0 → ⊥
+    some z = omega (arith, ap (λ (v : Verdict). v .number) e)
+
+-- a table that is taken with some bound passes checks 4 to 8
+table-goes-on : (P : Problem) (bound : ℕ) → checks P bound accepted ≡ accepted → (next : Verdict) → tableChecks P next ≡ next
+table-goes-on P bound t = go (table-checks P)
+  where
+    go : Checks (tableChecks P) → (next : Verdict) → tableChecks P next ≡ next
+    go (inl (v, ne, e)) = absurd (ne (ap (λ (w : Verdict). w .number) (sym (e _) ∙ t)))
+    go (inr e) = e
+
+module _ (P : Problem) (bound : ℕ) (taken : checks P bound accepted ≡ accepted) (t : T (tidy P)) where
+  -- so the table is in order, and the verdict on a plan says whether it is valid
+  ordered : InOrder P
+  ordered = in-order P (table-goes-on P bound taken accepted) (needed P t) (deleted P t) (tidy-goals P t)
+
+  accepts : (s : Plan) → (planChecks P bound s accepted ≡ accepted) ↔ Valid P bound s
+  accepts s = judged P ordered bound s (released P t s)
+
+-- ── the claims: of each what is computed, then what it says ──
+
+pub plans-ok : {P : Problem} {bound : ℕ} {s : Plan} → checks P bound accepted ≡ accepted → T (tidy P) → planChecks P bound s accepted ≡ accepted → T (noneBefore P bound s) → Plans P bound s
+plans-ok {P} {bound} {s} taken t e x = record {
+  taken = takes-ok taken;
+  first = f;
+  answer = λ v z a. let r = planned-only P bound v accepted z s a (inl (refl, f)) in (r .0, r .1 (r .0));
+}
+  where
+    f : First P bound s
+    f = first P (ordered P bound taken t) bound s (accepts P bound taken t s .0 e) x
+
+pub none-ok : {P : Problem} {bound : ℕ} → checks P bound accepted ≡ accepted → T (tidy P) → T (hopeless P (λ i. bound)) → Refuses10 P bound
+none-ok {P} {bound} taken t x = record {
+  taken = takes-ok taken;
+  none = n;
+  answer = λ v z. (ten v z, λ e. inr (e, n));
+  least = λ v b z. (ten-least v b z, λ h. inr (h .0, (h .1, n)));
+}
+  where
+    n : NoPlan P bound
+    n = none P (ordered P bound taken t) bound x
+
+    ten : (v : Verdict) (z : Plan) → Planned P bound v z → v ≡ refused 10 0
+    ten v z (inl (e, f)) = absurd (n z (f .ok))
+    ten v z (inr (e, m)) = e
+
+    ten-least : (v : Verdict) (b : ℕ) (z : Plan) → Bounded P bound v b z → (v ≡ refused 10 0) × (b ≡ 65535)
+    ten-least v b z (inl (e, l)) = absurd (n z (wider P b bound z (l .within) (l .first .ok)))
+    ten-least v b z (inr (e, (h, m))) = (e, h)
+
+pub least-ok : {P : Problem} {b : ℕ} {s : Plan} → checks P b accepted ≡ accepted → T (tidy P) → planChecks P b s accepted ≡ accepted → T (noneBefore P b s) → T (hopeless P (λ i. b - 1)) → Least P b s
+unfolding boundCheck
+least-ok {P} {b} {s} taken t e x y = record {
+  taken = λ given l. record { goes-on = λ next. table-goes-on P b taken _ ∙ if-pass (ltb 2880 given) 9 0 next (λ h. omega (arith, ltb→lt 2880 given h)) };
+  least = l;
+  none = n;
+  answer = λ given m v c z a. let r = bounded-only P given v accepted c b z s a (inl (refl, l given m)) in (r .0, r .1, r .2 (r .0));
+}
+  where
+    n : (given : ℕ) → given < b → NoPlan P given
+    n = below-least P (ordered P b taken t) b y
+
+    l : (given : ℕ) → b ≤ given → LeastBound P given b s
+    l given m = record { within = m; first = plans-ok taken t e x .first; none = λ c z h w. n c h z w }
+
+pub judged-ok : {P : Problem} {bound : ℕ} {s : Plan} {v : Verdict} → checks P bound accepted ≡ accepted → T (tidy P) → planChecks P bound s accepted ≡ v → Judged P bound s v
+judged-ok {P} {bound} {s} taken t e = record {
+  said = takes-ok taken .goes-on _ ∙ e;
+  valid = (λ h. accepts P bound taken t s .0 (e ∙ h), λ w. sym e ∙ accepts P bound taken t s .1 w);
+}
+
+pub touch-ok : {P : Problem} {s : Plan} {a b : ℕ} → a < P .count → b < P .count → T (inPlan s a && inPlan s b) → T (interfere P a b) → finish P s a ≡ s b → Touch P s a b
+touch-ok {P} {s} {a} {b} l m i c e = record {
+  there = (record { below = l; chosen = and-l (inPlan s a) _ i }, record { below = m; chosen = and-r (inPlan s a) _ i });
+  clash = c;
+  touch = e;
+}
+
+pub tenths-ok : {x : Float} {t : ℤ} → T (inRange x) → tenths x ≡ t → HasTenths x t
+tenths-ok {x} {t} h e = record { ranged = h; largest = subst (AreTenths x) e (tenths-are x) }

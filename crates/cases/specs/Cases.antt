@@ -1,0 +1,97 @@
+-- P1 to P11 of 01 as one table. What a line claims of the rules is said in Claims.
+-- Assumes nothing.
+use mathlib.Core.List.{List, [], _∷_}
+use Prim.Native.Nat.{ℕ}
+use lib.IntN.{pos, negℤ}
+use Rattle.rules.specs.Table.{Problem}
+use Rattle.tenths.specs.Cases.{float}
+use Rattle.cases.specs.Jobs.{Job, problem, lasting}
+use Rattle.cases.specs.Claims.{Claim, plans, noPlan, least, touching, offered, tenths, takes, refuses}
+
+-- ── jobs U ──
+
+-- job 0
+abbrev pub unpack : Job
+unpack = record { needs = 0 ∷ []; adds = 1 ∷ []; deletes = 0 ∷ []; long = 4 }
+
+-- job 1
+abbrev pub drench : Job
+drench = record { needs = 1 ∷ []; adds = 2 ∷ []; deletes = []; long = 2 }
+
+-- job 2
+abbrev pub warm : Job
+warm = record { needs = 1 ∷ []; adds = 3 ∷ []; deletes = []; long = 8 }
+
+-- job 3
+abbrev pub wash : Job
+wash = record { needs = 1 ∷ []; adds = 4 ∷ []; deletes = 2 ∷ []; long = 3 }
+
+-- all four jobs, five facts, open {0}
+abbrev pub U : (goals : List ℕ) → Problem
+U goals = problem (unpack ∷ drench ∷ warm ∷ wash ∷ []) 5 (0 ∷ []) goals
+
+-- the same with warm this long
+abbrev pub warming : (long : ℕ) → Problem
+warming long = problem (unpack ∷ drench ∷ lasting long warm ∷ wash ∷ []) 5 (0 ∷ []) (3 ∷ [])
+
+-- ── the jobs of P8, in the order of their numbers ──
+
+abbrev pub go : Job
+go = record { needs = 0 ∷ []; adds = 1 ∷ []; deletes = 0 ∷ []; long = 1 }
+
+abbrev pub back : Job
+back = record { needs = 1 ∷ []; adds = 0 ∷ []; deletes = 1 ∷ []; long = 1 }
+
+abbrev pub drop : Job
+drop = record { needs = 1 ∷ []; adds = 2 ∷ []; deletes = []; long = 1 }
+
+abbrev pub pick : Job
+pick = record { needs = 0 ∷ 2 ∷ []; adds = 3 ∷ []; deletes = []; long = 1 }
+
+-- a job that is out
+abbrev pub out : ℕ
+out = 65535
+
+-- ── the table ──
+
+unfoldable pub cases : List Claim
+cases =
+    -- P1: goals {2, 3}, bound 12: starts 0, 4, 4, out
+    plans (U (2 ∷ 3 ∷ [])) 12 (0 ∷ 4 ∷ 4 ∷ out ∷ [])
+    -- P2: the same, bound 11: refusal 10
+    ∷ noPlan (U (2 ∷ 3 ∷ [])) 11
+    -- P3: goals {2, 3, 4}: least bound 12, starts 0, 7, 4, 4
+    ∷ least (U (2 ∷ 3 ∷ 4 ∷ [])) 12 (0 ∷ 7 ∷ 4 ∷ 4 ∷ [])
+    -- P3: drench touches wash, and the plan is valid
+    ∷ touching (U (2 ∷ 3 ∷ 4 ∷ [])) 12 (0 ∷ 7 ∷ 4 ∷ 4 ∷ []) 3 1
+    -- P4: that plan with drench at 6: refusal 12, place 1
+    ∷ offered (U (2 ∷ 3 ∷ 4 ∷ [])) 12 (0 ∷ 6 ∷ 4 ∷ 4 ∷ []) 12 1
+    -- P5: goals {0}, bound 0: all out
+    ∷ plans (U (0 ∷ [])) 0 (out ∷ out ∷ out ∷ out ∷ [])
+    -- P6: goals {0, 1}, bound 2,880: refusal 10
+    ∷ noPlan (U (0 ∷ 1 ∷ [])) 2880
+    -- P7: no jobs, two facts, bound 0, goals empty: the empty plan
+    ∷ plans (problem [] 2 (0 ∷ []) []) 0 []
+    -- P7: goals {1}, open {0}: refusal 10
+    ∷ noPlan (problem [] 2 (0 ∷ []) (1 ∷ [])) 0
+    -- P8: four facts, open {0}, goals {1, 3}, bound 12: refusal 10, since go is wanted twice
+    ∷ noPlan (problem (go ∷ back ∷ drop ∷ pick ∷ []) 4 (0 ∷ []) (1 ∷ 3 ∷ [])) 12
+    -- P9: 24.000000000000004 has 240 tenths
+    ∷ tenths (float 0x4038_0000_0000_0001) (pos 240)
+    -- P9: 23.999999999999996 has 239
+    ∷ tenths (float 0x4037_ffff_ffff_ffff) (pos 239)
+    -- P10: negative zero has 0
+    ∷ tenths (float 0x8000_0000_0000_0000) (pos 0)
+    -- P10: -0.05 has -1
+    ∷ tenths (float 0xbfa9_9999_9999_999a) (negℤ (pos 1))
+    -- P10: the negative float nearest zero has -1
+    ∷ tenths (float 0x8000_0000_0000_0001) (negℤ (pos 1))
+    -- P11: duration 960 is taken
+    ∷ takes (warming 960) 12
+    -- P11: 961 is refused with 6 and the job's place
+    ∷ refuses (warming 961) 12 6 2
+    -- P11: bound 2,880 is taken
+    ∷ takes (U (2 ∷ 3 ∷ [])) 2880
+    -- P11: 2,881 is refused with 9
+    ∷ refuses (U (2 ∷ 3 ∷ [])) 2881 9 0
+    ∷ []

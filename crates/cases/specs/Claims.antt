@@ -1,0 +1,104 @@
+-- What a case can claim, and what that says of the rules.
+-- Assumes nothing.
+use mathlib.Core.Path.{_≡_}
+use mathlib.Core.Logic.{_↔_}
+use mathlib.Core.List.{List, [], _∷_}
+use Prim.Native.Nat.{ℕ, _≤_, _<_}
+use lib.Dec.{T}
+use lib.Ieee.{Float}
+use lib.IntN.{ℤ}
+use Rattle.rules.specs.Refusals.{Verdict, accepted, refused}
+use Rattle.rules.specs.Table.{Problem, tableChecks, boundCheck}
+use Rattle.rules.specs.Plans.{Plan, starts, In, finish, interfere, Valid}
+use Rattle.rules.specs.Verdicts.{planChecks}
+use Rattle.rules.specs.Order.{First, LeastBound, NoPlan, Planned, Bounded}
+use Rattle.tenths.specs.Tenths.{inRange, AreTenths}
+
+-- the kinds of claim
+pub data Claim : Type 0 where
+  -- planning within the bound gives these starts
+  plans : Problem → (bound : ℕ) → (starts : List ℕ) → Claim
+  -- refusal 10: there is no valid plan within the bound
+  noPlan : Problem → (bound : ℕ) → Claim
+  -- this is the least bound, and these are the starts that come with it
+  least : Problem → (bound : ℕ) → (starts : List ℕ) → Claim
+  -- the offered plan is valid, with the second job starting just where the first finishes, although they interfere
+  touching : Problem → (bound : ℕ) → (starts : List ℕ) → (first second : ℕ) → Claim
+  -- the offered plan is refused with this number and place
+  offered : Problem → (bound : ℕ) → (starts : List ℕ) → (number place : ℕ) → Claim
+  -- the reading has these tenths
+  tenths : Float → ℤ → Claim
+  -- checks 4 to 9 take the table and the bound
+  takes : Problem → (bound : ℕ) → Claim
+  -- checks 4 to 9 refuse the table or the bound with this number and place
+  refuses : Problem → (bound : ℕ) → (number place : ℕ) → Claim
+
+-- ── what the claims say ──
+
+-- checks 4 to 9 of a call, and what is said behind them
+abbrev pub checks : Problem → (bound : ℕ) → Verdict → Verdict
+checks P bound next = tableChecks P (boundCheck bound next)
+
+-- they take the table and the bound: what comes behind them is what is said
+pub record Taken (P : Problem) (bound : ℕ) : Type 0 where
+  pub goes-on : (next : Verdict) → checks P bound next ≡ next
+
+-- they refuse: this is what is said, whatever would come behind them
+pub record Refused (P : Problem) (bound number place : ℕ) : Type 0 where
+  pub stops : (next : Verdict) → checks P bound next ≡ refused number place
+
+-- z has the starts of s
+abbrev pub Same : Problem → (z s : Plan) → Type 0
+Same P z s = (i : ℕ) → i < P .count → z i ≡ s i
+
+-- s is the first valid plan, and every answer that the rules allow gives its starts
+pub record Plans (P : Problem) (bound : ℕ) (s : Plan) : Type 0 where
+  pub taken : Taken P bound
+  pub first : First P bound s
+  pub answer : (v : Verdict) (z : Plan) → Planned P bound v z → (v ≡ accepted) × Same P z s
+
+-- no plan at all is valid: to planning the rules allow one answer, 10 with place 0, and to the least bound 10 with 65,535
+pub record Refuses10 (P : Problem) (bound : ℕ) : Type 0 where
+  pub taken : Taken P bound
+  pub none : (z : Plan) → Valid P bound z → ⊥
+  pub answer : (v : Verdict) (z : Plan) → Planned P bound v z ↔ (v ≡ refused 10 0)
+  pub least : (v : Verdict) (b : ℕ) (z : Plan) → Bounded P bound v b z ↔ ((v ≡ refused 10 0) × (b ≡ 65535))
+
+-- b is the least bound under every given bound from b on, and every answer that the rules allow gives it with the starts of s
+pub record Least (P : Problem) (b : ℕ) (s : Plan) : Type 0 where
+  pub taken : (given : ℕ) → given ≤ 2880 → Taken P given
+  pub least : (given : ℕ) → b ≤ given → LeastBound P given b s
+  pub none : (given : ℕ) → given < b → NoPlan P given
+  pub answer : (given : ℕ) → b ≤ given → (v : Verdict) (c : ℕ) (z : Plan) → Bounded P given v c z → (v ≡ accepted) × (c ≡ b) × Same P z s
+
+-- what is said of an offered plan is v, and it is accepted exactly where the plan is valid
+pub record Judged (P : Problem) (bound : ℕ) (s : Plan) (v : Verdict) : Type 0 where
+  pub said : checks P bound (planChecks P bound s accepted) ≡ v
+  pub valid : (v ≡ accepted) ↔ Valid P bound s
+
+-- jobs a and b of the plan interfere, and b starts at the quarter hour in which a finishes
+pub record Touch (P : Problem) (s : Plan) (a b : ℕ) : Type 0 where
+  pub there : In P s a × In P s b
+  pub clash : T (interfere P a b)
+  pub touch : finish P s a ≡ s b
+
+-- the float is in range, and t is the largest whole number not above ten times its exact value
+pub record HasTenths (x : Float) (t : ℤ) : Type 0 where
+  pub ranged : T (inRange x)
+  pub largest : AreTenths x t
+
+-- what a case claims of the rules
+abbrev pub Holds : Claim → Type 0
+Holds (plans P bound l) = Plans P bound (starts l)
+Holds (noPlan P bound) = Refuses10 P bound
+Holds (least P b l) = Least P b (starts l)
+Holds (touching P bound l a b) = Judged P bound (starts l) accepted × Touch P (starts l) a b
+Holds (offered P bound l number place) = Judged P bound (starts l) (refused number place)
+Holds (tenths x t) = HasTenths x t
+Holds (takes P bound) = Taken P bound
+Holds (refuses P bound number place) = Refused P bound number place
+
+-- every case of the list holds
+abbrev pub AllHold : List Claim → Type 0
+AllHold [] = Unit {0}
+AllHold (c ∷ cs) = Holds c × AllHold cs
