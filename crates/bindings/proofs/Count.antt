@@ -18,12 +18,12 @@ use Rattle.rules.proofs.Named.{binds-once}
 
 -- ── sums ──
 
-sum-add : (f g : ℕ → ℕ) (n : ℕ) → sum (λ i. f i + g i) n ≡ sum f n + sum g n
+pub sum-add : (f g : ℕ → ℕ) (n : ℕ) → sum (λ i. f i + g i) n ≡ sum f n + sum g n
 unfolding sum
 sum-add f g zero = refl
 sum-add f g (suc k) = omega (arith, sum-add f g k)
 
-sum-of : (c n : ℕ) → sum (λ i. c) n ≡ n * c
+pub sum-of : (c n : ℕ) → sum (λ i. c) n ≡ n * c
 unfolding sum
 sum-of c zero = omega arith
 sum-of c (suc k) = omega (arith, sum-of c k, suc-mul k c)

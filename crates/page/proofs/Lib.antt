@@ -1,0 +1,4 @@
+pub mod Laws
+pub mod Lines
+pub mod Pages
+pub mod Only

@@ -1,0 +1,60 @@
+use borrow.Author.Needs.{needs}
+use native.Mathlib.Omega.{arith}
+use Rattle.page.proofs.Lines.{jobs-fit}
+use Rattle.page.proofs.Laws.{lays-none, lays-fit, lays-next}
+use Rattle.page.specs.Lays.{Lays}
+use Rattle.page.specs.Page.{jobsAt}
+use Rattle.tables.specs.Tables.{problem}
+use Rattle.rules.specs.Pairs.{inOrder}
+use Rattle.rules.specs.Plans.{starts}
+use lib.ListN.{length}
+use Prim.Native.Nat.{_+_, _-_, _*_, _≤_}
+use mathlib.Core.Path.{_≡_, refl, _∙_}
+use Rattle.page.proofs.put_jobs.Statement.{statement}
+use Rattle.page.proofs.put_jobs.Tie as tie
+
+abbrev Inv-loop : tie.InvT-loop
+Inv-loop l q s bound at out₀ n next₀ t₀ out next t = (t ≤ n) × (length out ≡ length out₀) × Lays (18 * q .jobs) (inOrder (jobsAt (problem l q) (starts s)) t) at out₀ out next
+
+abbrev μ-loop : tie.MeasureT-loop
+μ-loop l q s bound at out₀ n next₀ t₀ out next t = n - t
+
+add-n : tie.Need-add-n Inv-loop μ-loop
+add-n c = search needs
+
+loop-holds : tie.Need-loop-holds Inv-loop μ-loop
+unfolding inOrder
+loop-holds c = (omega arith, refl, lays-fit (lays-none _ _) (omega arith))
+
+put-starts-requires : tie.Need-put-starts-requires Inv-loop μ-loop
+put-starts-requires c κs = search needs
+
+add-t : tie.Need-add-t Inv-loop μ-loop
+add-t c = search needs
+
+loop-less : tie.Need-loop-less Inv-loop μ-loop
+loop-less c = search needs
+
+loop-again : tie.Need-loop-again Inv-loop μ-loop
+loop-again c = let a = c .before .before .before .before .before .before .before .before .args in let P = problem (a .l) (a .q) in (omega arith, c .before .out .given ∙ c .before .before .before .before .before .loop .inv .1, lays-fit (lays-next (jobsAt P (starts (a .s .now))) (c .before .before .before .before .before .loop .t) (search needs) (c .before .before .before .before .before .loop .inv .2) (c .before .before .put-starts .ensures)) (jobs-fit P (starts (a .s .now)) (c .before .before .before .before .before .loop .t + 1)))
+
+same-length : tie.Need-same-length Inv-loop μ-loop
+same-length c = c .before .loop .inv .1
+
+returns : tie.Need-returns Inv-loop μ-loop
+returns c = let e : c .before .loop .t ≡ c .before .before .before .before .args .bound + 1 = omega arith in rw e at (c .before .loop .inv .2)
+
+pub put-jobs-spec : {M : Type 1} → statement M
+put-jobs-spec =
+    tie.close
+    (tie.spec
+    Inv-loop
+    μ-loop
+    add-n
+    loop-holds
+    put-starts-requires
+    add-t
+    loop-less
+    loop-again
+    same-length
+    returns)

@@ -1,0 +1,73 @@
+use mathlib.Core.Path.{_≡_, refl, _∙_}
+use Rattle.page.specs.Page.{pairLine}
+use borrow.Author.Needs.{needs}
+use native.Mathlib.Omega.{arith}
+use Rattle.page.proofs.Laws.{lays-none, lays-fit, lays-line}
+use Rattle.page.specs.Lays.{Lays}
+use Rattle.rules.specs.Pairs.{inOrder}
+use lib.ListN.{length, getD}
+use Prim.Native.Nat.{_+_, _-_, _*_, _≤_}
+use Rattle.page.proofs.put_pairs.Statement.{statement}
+use Rattle.page.proofs.put_pairs.Tie as tie
+
+abbrev Inv-loop : tie.InvT-loop
+Inv-loop pairs n at out₀ next₀ i₀ out next i = (i ≤ n) × (length out ≡ length out₀) × Lays (19 * i) (inOrder (λ k. pairLine (getD pairs (2 * k) 0) (getD pairs (2 * k + 1) 0)) i) at out₀ out next
+
+abbrev μ-loop : tie.MeasureT-loop
+μ-loop pairs n at out₀ next₀ i₀ out next i = n - i
+
+loop-holds : tie.Need-loop-holds Inv-loop μ-loop
+unfolding inOrder
+loop-holds c = (omega arith, refl, lays-fit (lays-none _ _) (omega arith))
+
+mul-put-pair : tie.Need-mul-put-pair Inv-loop μ-loop
+mul-put-pair c = search needs
+
+shared-slice-read-put-pair : tie.Need-shared-slice-read-put-pair Inv-loop μ-loop
+shared-slice-read-put-pair c = search needs
+
+mul-put-pair-2 : tie.Need-mul-put-pair-2 Inv-loop μ-loop
+mul-put-pair-2 c = search needs
+
+add-put-pair : tie.Need-add-put-pair Inv-loop μ-loop
+add-put-pair c = search needs
+
+shared-slice-read-put-pair-2 : tie.Need-shared-slice-read-put-pair-2 Inv-loop μ-loop
+shared-slice-read-put-pair-2 c = search needs
+
+put-pair-requires : tie.Need-put-pair-requires Inv-loop μ-loop
+put-pair-requires c κs = search needs
+
+add-i : tie.Need-add-i Inv-loop μ-loop
+add-i c = search needs
+
+loop-less : tie.Need-loop-less Inv-loop μ-loop
+loop-less c = search needs
+
+loop-again : tie.Need-loop-again Inv-loop μ-loop
+loop-again c = let a = c .before .before .before .before .before .before .before .before .before .before .args in (omega arith, c .before .out .given ∙ c .before .before .before .before .before .before .before .loop .inv .1, lays-line (λ k. pairLine (getD (a .pairs .now) (2 * k) 0) (getD (a .pairs .now) (2 * k + 1) 0)) 19 (c .before .before .before .before .before .before .before .loop .i) (search needs) (c .before .before .before .before .before .before .before .loop .inv .2) (c .before .before .put-pair .ensures))
+
+same-length : tie.Need-same-length Inv-loop μ-loop
+same-length c = c .before .loop .inv .1
+
+returns : tie.Need-returns Inv-loop μ-loop
+returns c = let e : c .before .loop .i ≡ c .before .before .before .before .args .n = omega arith in rw e at (c .before .loop .inv .2)
+
+pub put-pairs-spec : {M : Type 1} → statement M
+put-pairs-spec =
+    tie.close
+    (tie.spec
+    Inv-loop
+    μ-loop
+    loop-holds
+    mul-put-pair
+    shared-slice-read-put-pair
+    mul-put-pair-2
+    add-put-pair
+    shared-slice-read-put-pair-2
+    put-pair-requires
+    add-i
+    loop-less
+    loop-again
+    same-length
+    returns)

@@ -1,0 +1,55 @@
+use mathlib.Core.Path.{_≡_, refl, _∙_}
+use Rattle.page.specs.Page.{textIf, jobLine}
+use borrow.Author.Needs.{needs}
+use native.Mathlib.Omega.{arith}
+use Rattle.page.proofs.Laws.{lays-none, lays-fit, lays-line}
+use Rattle.page.specs.Lays.{Lays}
+use Rattle.rules.specs.Pairs.{inOrder}
+use Rattle.rules.specs.Plans.{starts}
+use lib.ListN.{length, getD}
+use lib.Dec.{eqb}
+use Prim.Native.Nat.{_+_, _-_, _*_, _≤_}
+use Rattle.page.proofs.put_starts.Statement.{statement}
+use Rattle.page.proofs.put_starts.Tie as tie
+
+abbrev Inv-loop : tie.InvT-loop
+Inv-loop l s t at out₀ n next₀ j₀ out next j = (j ≤ n) × (length out ≡ length out₀) × Lays (18 * j) (inOrder (λ i. textIf (eqb (starts s i) t) (jobLine (starts s i) (starts s i + getD (l .durations) i 0) i)) j) at out₀ out next
+
+abbrev μ-loop : tie.MeasureT-loop
+μ-loop l s t at out₀ n next₀ j₀ out next j = n - j
+
+loop-holds : tie.Need-loop-holds Inv-loop μ-loop
+unfolding inOrder
+loop-holds c = (omega arith, refl, lays-fit (lays-none _ _) (omega arith))
+
+put-start-requires : tie.Need-put-start-requires Inv-loop μ-loop
+put-start-requires c κs = search needs
+
+add-j : tie.Need-add-j Inv-loop μ-loop
+add-j c = search needs
+
+loop-less : tie.Need-loop-less Inv-loop μ-loop
+loop-less c = search needs
+
+loop-again : tie.Need-loop-again Inv-loop μ-loop
+loop-again c = let a = c .before .before .before .before .before .before .before .before .args in (omega arith, c .before .out .given ∙ c .before .before .before .before .before .loop .inv .1, lays-line (λ i. textIf (eqb (getD (a .s .now) i 0) (a .t)) (jobLine (getD (a .s .now) i 0) (getD (a .s .now) i 0 + getD (a .l .durations) i 0) i)) 18 (c .before .before .before .before .before .loop .j) (search needs) (c .before .before .before .before .before .loop .inv .2) (c .before .before .put-start .ensures))
+
+same-length : tie.Need-same-length Inv-loop μ-loop
+same-length c = c .before .loop .inv .1
+
+returns : tie.Need-returns Inv-loop μ-loop
+returns c = let e : c .before .loop .j ≡ c .before .before .before .before .args .q .jobs = omega arith in rw e at (c .before .loop .inv .2)
+
+pub put-starts-spec : {M : Type 1} → statement M
+put-starts-spec =
+    tie.close
+    (tie.spec
+    Inv-loop
+    μ-loop
+    loop-holds
+    put-start-requires
+    add-j
+    loop-less
+    loop-again
+    same-length
+    returns)

@@ -1,0 +1,2 @@
+pub mod Page
+pub mod Lays

@@ -1,0 +1,103 @@
+-- The text that bench-plan prints, as a list of letters' codes.
+-- Assumes nothing.
+use mathlib.Core.Path.{_≡_}
+use mathlib.Core.Bool.{Bool, true, false, cond}
+use mathlib.Core.List.{List, [], _∷_, _++_}
+use Prim.Native.Nat.{ℕ, _+_, _*_, _/_, _%_, _≤_}
+use lib.Dec.{eqb, leb, ltb}
+use lib.ListN.{length, getD, replicate}
+use Rattle.rules.specs.Refusals.{Verdict, accepted, refuseIf}
+use Rattle.rules.specs.Table.{Problem}
+use Rattle.rules.specs.Plans.{Plan, starts, finish}
+use Rattle.rules.specs.Pairs.{inOrder, pairBytes}
+use Rattle.tables.specs.declared.Loaded.{Loaded}
+use Rattle.tables.specs.declared.Ask.{Ask}
+use Rattle.tables.specs.declared.Answer.{Answer}
+use Rattle.tables.specs.Tables.{problem, answer, changed}
+use Rattle.planning.specs.Planning.{BoundsWithin}
+use Rattle.bytes_le.specs.Little.{over}
+use Rattle.jobfile.specs.declared.Read.{Read}
+use Rattle.jobfile.specs.Calls.{reading}
+
+-- ── numbers ──
+
+-- the text where the test passes, else none
+unfoldable pub textIf : Bool → List ℕ → List ℕ
+textIf true text = text
+textIf false text = []
+
+-- the digit of so many units, where the number has it
+abbrev pub digit : (n unit : ℕ) → List ℕ
+digit n u = textIf (leb u n) ((48 + n / u % 10) ∷ [])
+
+-- a number below 100,000
+unfoldable pub decimal : ℕ → List ℕ
+decimal n = digit n 10000 ++ (digit n 1000 ++ (digit n 100 ++ (digit n 10 ++ ((48 + n % 10) ∷ []))))
+
+-- a number and the letter behind it: a blank, or the end of the line
+abbrev pub numberThen : (n letter : ℕ) → List ℕ
+numberThen n c = decimal n ++ (c ∷ [])
+
+-- ── lines ──
+
+-- `refused`, number and place in one line
+abbrev pub refusedLine : (number place : ℕ) → List ℕ
+refusedLine n k = (114 ∷ 101 ∷ 102 ∷ 117 ∷ 115 ∷ 101 ∷ 100 ∷ 32 ∷ []) ++ (numberThen n 32 ++ numberThen k 10)
+
+-- `least` and the least bound
+abbrev pub leastLine : ℕ → List ℕ
+leastLine b = (108 ∷ 101 ∷ 97 ∷ 115 ∷ 116 ∷ 32 ∷ []) ++ numberThen b 10
+
+-- start, finish and number of a job
+abbrev pub jobLine : (start end job : ℕ) → List ℕ
+jobLine t e j = numberThen t 32 ++ (numberThen e 32 ++ numberThen j 10)
+
+-- the jobs that start at t, by number
+abbrev pub jobsAt : Problem → Plan → (t : ℕ) → List ℕ
+jobsAt P s t = inOrder (λ j. textIf (eqb (s j) t) (jobLine (s j) (finish P s j) j)) (P .count)
+
+-- the plan's jobs by start, then number: those that start at 0, at 1, and so on up to the bound
+abbrev pub jobLines : Problem → Plan → (bound : ℕ) → List ℕ
+jobLines P s b = inOrder (jobsAt P s) (b + 1)
+
+-- `before` between the two jobs of a pair
+abbrev pub pairLine : (a b : ℕ) → List ℕ
+pairLine a b = decimal a ++ ((32 ∷ 98 ∷ 101 ∷ 102 ∷ 111 ∷ 114 ∷ 101 ∷ 32 ∷ []) ++ numberThen b 10)
+
+-- a line for each of the first n pairs, of two bytes each
+abbrev pub pairLines : List ℕ → ℕ → List ℕ
+pairLines bytes n = inOrder (λ i. pairLine (getD bytes (2 * i) 0) (getD bytes (2 * i + 1) 0)) n
+
+-- ── the whole ──
+
+-- the least bound, then the plan's jobs, then the binding pairs
+unfoldable pub planText : Problem → (b : ℕ) → Plan → List ℕ
+planText P b s = leastLine b ++ (jobLines P s b ++ pairLines (pairBytes P s) (length (pairBytes P s) / 2))
+
+-- the plan, or the refusal
+abbrev pub said : Answer → List ℕ → List ℕ
+said a text = cond (eqb (a .number) 0) text (refusedLine (a .number) (a .place))
+
+-- what is printed of a table: a and ys are what the least bound gives for it, with all starts out before
+pub record Shows (l : Loaded) (q : Ask) (text : List ℕ) : Type 0 where
+  pub a : Answer
+  pub ys : List ℕ
+  pub bounds : BoundsWithin l q (replicate 24 65535) a ys
+  pub shows : text ≡ said a (planText (problem l q) (a .value) (starts ys))
+
+-- what is printed of a file: the refusal of the reader, which is lent 255 records, or what is printed of the table read
+pub record Prints (file text : List ℕ) : Type 0 where
+  pub of : List ℕ
+  pub shows : reading file 255 .answer .number ≡ 0 → Shows (reading file 255 .table) (reading file 255 .ask) of
+  pub prints : text ≡ said (reading file 255 .answer) of
+
+-- 8,192 bytes are wanted, which hold the longest text
+abbrev pub roomCheck : (room : ℕ) → Verdict
+roomCheck room = refuseIf (ltb room 8192) 3 0 accepted
+
+-- the answer is the length of the text, which stands in the first bytes; every other byte is as it was
+pub record Pages (file old new : List ℕ) (r : Answer) : Type 0 where
+  pub text : List ℕ
+  pub prints : 8192 ≤ length old → Prints file text
+  pub says : r ≡ answer (roomCheck (length old)) (length text) 0
+  pub bytes : new ≡ changed (roomCheck (length old)) (over text old) old
