@@ -155,15 +155,7 @@ fn put_if(out: &mut [u8], at: usize, yes: bool, a: usize, b: usize) -> usize
 }
 
 // The pairs with first job a are written behind what is there.
-fn put_row(
-    l: Loaded,
-    q: Ask,
-    s: &[u16],
-    f: Feeders,
-    a: usize,
-    at: usize,
-    out: &mut [u8],
-) -> usize
+fn put_row(l: Loaded, q: Ask, s: &[u16], f: Feeders, a: usize, at: usize, out: &mut [u8]) -> usize
     requires { ⌜ Given q (now s) × (a < q .jobs) × FeedersOf (problem l q) (starts (now s)) f × (at + length (pairRow (problem l q) (starts (now s)) a (q .jobs)) ≤ length (now out)) ⌝ }
     ensures { λ r. ⌜ Puts (pairRow (problem l q) (starts (now (s .entry))) a (q .jobs)) at (now (out .entry)) (now (out .exit)) r ⌝ }
 {

@@ -29,7 +29,7 @@ fn try_without(
     ensures { λ r. ⌜ Without (Lent (now (conds .entry)) (now (adders .entry)) (now (killers .entry)) (now (steps .entry)) (now (hits .entry)) ask) base k r ⌝ }
 {
     let t = orders::put_barred(base, k);
-    search::pick(t, ask, conds, adders, killers, steps, hits)
+    search::find_plan(t, ask, conds, adders, killers, steps, hits)
 }
 
 // A plan with job k before t.
@@ -56,10 +56,10 @@ fn try_sooner(
     let x = t - 1;
     let u = orders::put_inside(base, k);
     if u.hi[k] <= x {
-        return search::pick(u, ask, conds, adders, killers, steps, hits);
+        return search::find_plan(u, ask, conds, adders, killers, steps, hits);
     }
     let v = orders::put_hi(u, k, x);
-    search::pick(v, ask, conds, adders, killers, steps, hits)
+    search::find_plan(v, ask, conds, adders, killers, steps, hits)
 }
 
 // The earliest start of k.
@@ -139,7 +139,7 @@ pub fn first(
     requires { ⌜ RootOk (Lent (now conds) (now adders) (now killers) (now steps) (now hits) ask) root × (Sizes (now conds) (now adders) (now killers) (now steps) (now hits) × Some (Lent (now conds) (now adders) (now killers) (now steps) (now hits) ask)) ⌝ }
     ensures { λ r. ⌜ FirstOf (Lent (now (conds .entry)) (now (adders .entry)) (now (killers .entry)) (now (steps .entry)) (now (hits .entry)) ask) r ⌝ }
 {
-    let a = search::pick(root, ask, conds, adders, killers, steps, hits);
+    let a = search::find_plan(root, ask, conds, adders, killers, steps, hits);
     let ok = a.found;
     if !ok {
         return a;

@@ -171,7 +171,7 @@ fn answer_from(
     if first {
         return planner::first(s, ask, &conds, &adders, &killers, &steps, &hits);
     }
-    search::pick(s, ask, &conds, &adders, &killers, &steps, &hits)
+    search::find_plan(s, ask, &conds, &adders, &killers, &steps, &hits)
 }
 
 // A valid plan within the bound, the first where that is wanted.

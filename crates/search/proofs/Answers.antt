@@ -1,28 +1,31 @@
 -- Laws of the answers.
 -- Assumes nothing.
 use mathlib.Core.Path.{_≡_, refl, sym, subst, _∙_}
-use mathlib.Core.Logic.{_⊎_, ⊎-elim, _≢_}
+use mathlib.Core.Logic.{_⊎_, inl, inr, ⊎-elim, _≢_}
 use mathlib.Core.Bool.{Bool, true, false}
 use mathlib.Core.List.{List, [], _∷_}
 use Prim.Native.Nat.{ℕ, zero, suc, _+_, _≤_, _<_}
 use native.Mathlib.Omega.{arith}
-use native.Mathlib.Decide.{decLt}
+use native.Mathlib.Decide.{decLt, ℕ-discrete}
 use lib.Dec.{T}
 use lib.ListN.{getD, length}
 use Rattle.facts.specs.Facts.{has}
 use Rattle.rules.specs.Plans.{Plan}
 use Rattle.rules.specs.Supports.{Support}
 use Rattle.states.specs.State.{Search, Dead, Keeps, Plans, Whole, Timed, Who, task, goal, Wants, there, Safe, Ahead}
-use Rattle.states.proofs.Keep.{keeps-dead, plans-back}
+use Rattle.states.proofs.Keep.{keeps-refl, keeps-trans, keeps-dead, plans-back}
+use Rattle.states.proofs.Count.{undecided-le}
 use Rattle.orders.specs.declared.State.{State}
+use Rattle.search.specs.declared.Settled.{Settled}
 use Rattle.search.specs.declared.Answer.{Answer}
 use Rattle.flaws.specs.declared.Choice.{Choice}
 use Rattle.flaws.specs.declared.Ask.{Ask}
-use Rattle.orders.specs.View.{view, Tries, IsIn, IsOut, Before, NotBefore}
+use Rattle.orders.specs.View.{view, Tries, Prunes}
 use Rattle.flaws.specs.Flaw.{Lent, NoFlaw, Picks}
-use Rattle.search.specs.Leaf.{Steady, AllStand, Stands, startOf, planOf, Answers, Chosen, EndsAll}
+use Rattle.search.specs.Leaf.{Steady, AllStand, Stands, startOf, planOf, Answers, Chosen, First, Second, EndsAll, Some, SettledBy, AtRest, PrunedTo}
 use Rattle.flaws.proofs.Flaws.{who-job}
 use Rattle.search.proofs.Leaves.{start-yes, start-no}
+use Rattle.search.proofs.Repairs.{by-job, by-pair}
 use Rattle.states.proofs.Rules as rules
 use Rattle.states.proofs.Leaf as leaf
 
@@ -129,11 +132,31 @@ module _ {Ok : Search → Type 0} where
         (cases P o Q);
   }
 
+-- ── pruning ──
+
+module _ {C A K S H : List ℕ} {ask : Ask} (some : Some (Lent C A K S H ask)) (s t : State) (k : Prunes (Lent C A K S H ask) s t) where
+  to : {q : Settled} → ((P : Search) → Lent C A K S H ask P → Keeps P (view t) (view (q .state))) → AtRest (Lent C A K S H ask) S q → PrunedTo (Lent C A K S H ask) S s q
+  to h r = record {
+    keeps = λ P l. keeps-trans (k P (l .known .wf) l) (h P l);
+    fewer = undecided-le (keeps-trans (k (some .0) (some .1 .known .wf) (some .1)) (h (some .0) (some .1)) .more);
+    rest = r;
+  }
+
+  pub pruned-dead : ((P : Search) → Dead P (view t)) → PrunedTo (Lent C A K S H ask) S s (record { ok = false; state = t })
+  pruned-dead d = to (λ P l. keeps-refl _) (record { steady = λ e. bad (sym e); dead = λ e P l. d P })
+
+  pub pruned-settled : {q : Settled} → SettledBy t S q → PrunedTo (Lent C A K S H ask) S s q
+  pruned-settled d = to (λ P l. d .keeps P (l .known .wf) (l .tabled .steps)) (record { steady = d .steady; dead = λ e P l. d .dead e P (l .known .wf) (l .tabled .steps) })
+
+-- ── repairs ──
+
 pub chosen : {s : State} {X N : Type 0} {c : Choice} → Picks s X N c → c .kind ≢ 0 → c .kind ≢ 1 → Chosen s c
 chosen {c = c} p n m = record { job = p .job; pair = λ k. p .pair (omega (arith, p .small)) }
 
-pub job-cases : {C A K S H : List ℕ} {ask : Ask} (x : ℕ) (P : Search) → Lent C A K S H ask P → (Q : Plan) → IsIn x P Q ⊎ IsOut x P Q
-job-cases x P l Q = rules.in? P (l .known .wf) Q x
-
-pub pair-cases : {C A K S H : List ℕ} {ask : Ask} (x y : ℕ) (P : Search) → Lent C A K S H ask P → (Q : Plan) → Before x y P Q ⊎ NotBefore x y P Q
-pair-cases x y P l Q = rules.split P (l .known .wf) Q x y
+-- every plan meets the claim of the first repair or that of the second
+pub repair-cases : {C A K S H : List ℕ} {ask : Ask} (c : Choice) (P : Search) → Lent C A K S H ask P → (Q : Plan) → First c P Q ⊎ Second c P Q
+repair-cases c P l Q = go (ℕ-discrete (c .kind) 2)
+  where
+    go : Dec (c .kind ≡ 2) → First c P Q ⊎ Second c P Q
+    go (yes e) = ⊎-elim (λ h. inl (by-job e h)) (λ h. inr (by-job e h)) (rules.in? P (l .known .wf) Q (c .x))
+    go (no n) = ⊎-elim (λ h. inl (by-pair n h)) (λ h. inr (by-pair n h)) (rules.split P (l .known .wf) Q (c .x) (c .y))

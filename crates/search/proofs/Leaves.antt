@@ -14,7 +14,7 @@ use Rattle.facts.specs.Facts.{has, Decides}
 use Rattle.rules.specs.Plans.{Plan}
 use Rattle.rules.specs.Table.{InOrder}
 use Rattle.states.specs.State.{Search, Dead, Left}
-use Rattle.states.proofs.Keep.{keeps-refl, keeps-trans, keeps-dead}
+use Rattle.states.proofs.Keep.{keeps-refl, keeps-trans}
 use Rattle.orders.specs.declared.State.{State}
 use Rattle.search.specs.declared.Settled.{Settled}
 use Rattle.flaws.specs.declared.Choice.{Choice}
@@ -77,14 +77,10 @@ pub settle-next : (S : List ℕ) (s t : State) (r : Settled) (a : ℕ) → a < 2
 settle-next S s t₀ r a l p d e P wf t = keeps-trans (p P wf t) (d .keeps e P wf (t a l))
 
 pub settle-dead : {S : List ℕ} {s t : State} {r : Settled} (a : ℕ) → a < 24 → Prunes (AllTakes S) s t → Raised t a (getD S a 0) r → r .ok ≡ false → SettledBy s S (record { ok = false; state = t })
-settle-dead a l p d e = record {
-  keeps = λ x. bad (sym x);
-  steady = λ x. bad (sym x);
-  dead = λ x P wf t. keeps-dead (p P wf t) (d .dead e P wf (t a l));
-}
+settle-dead a l p d e = record { keeps = p; steady = λ x. bad (sym x); dead = λ x P wf t. d .dead e P wf (t a l) }
 
 pub settle-done : {S : List ℕ} {s t : State} → Prunes (AllTakes S) s t → Steady t S 24 → SettledBy s S (record { ok = true; state = t })
-settle-done p h = record { keeps = λ e. p; steady = λ e. h; dead = λ e. bad e }
+settle-done p h = record { keeps = p; steady = λ e. h; dead = λ e. bad e }
 
 -- ── checks ──
 

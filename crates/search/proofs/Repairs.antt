@@ -1,8 +1,10 @@
 -- The repairs.
 -- Assumes nothing.
-use mathlib.Core.Logic.{inl, inr, ⊎-elim}
+use mathlib.Core.Path.{_≡_}
+use mathlib.Core.Logic.{inl, inr, ⊎-elim, _≢_}
 use Prim.Native.Nat.{ℕ, _<_}
 use native.Mathlib.Nat.{le-refl}
+use native.Mathlib.Decide.{ℕ-discrete}
 use lib.Dec.{T}
 use lib.ListN.{length}
 use Rattle.rules.specs.Plans.{Plan}
@@ -11,6 +13,8 @@ use Rattle.states.proofs.Count.{pair-falls, job-falls}
 use Rattle.states.proofs.Keep.{fits-more, more-trans}
 use Rattle.orders.specs.declared.State.{State}
 use Rattle.orders.specs.View.{view, PutInside, PutBarred, PutSure, PutNever, Tries, IsIn, IsOut, Before, NotBefore, FreeJob, FreePair}
+use Rattle.flaws.specs.declared.Choice.{Choice}
+use Rattle.search.specs.Leaf.{ByKind, Chosen}
 use Rattle.orders.proofs.Changes.{bit-keep, bit-new, bit-cases, row-keep, row-new, row-cases}
 
 module _ {s r : State} where
@@ -82,3 +86,22 @@ takes-pair x y f d e = record {
   fewer = pair-falls (more-trans (more-inside x d) (more-sure x y e)) x y (f .first) (f .second) (f .free) (inl (new-sure x y e));
   keep = λ P Q l h. fits-sure P Q (fits-inside P Q (l .fits) x d (h .0)) x y e (h .1);
 }
+
+-- ── by kind ──
+
+pub by-job : {c : Choice} {J R : Type 0} → c .kind ≡ 2 → J → ByKind c J R
+by-job e h = record { job = λ x. h; pair = λ n. absurd (n e) }
+
+pub by-pair : {c : Choice} {J R : Type 0} → c .kind ≢ 2 → R → ByKind c J R
+by-pair n h = record { job = λ e. absurd (n e); pair = λ x. h }
+
+pub chosen-below : (s : State) (c : Choice) → Chosen s c → c .x < 24
+chosen-below s c h = go (ℕ-discrete (c .kind) 2)
+  where
+    go : Dec (c .kind ≡ 2) → c .x < 24
+    go (yes e) = h .job e .below
+    go (no n) = h .pair n .first
+
+-- a repair that keeps the plans of R keeps those of a claim that says R
+pub tries-as : (R U : Search → Plan → Type 0) {s r : State} → ((P : Search) (Q : Plan) → U P Q → R P Q) → Tries R s r → Tries U s r
+tries-as R U f d = record { more = d .more; fewer = d .fewer; keep = λ P Q l h. d .keep P Q l (f P Q h) }

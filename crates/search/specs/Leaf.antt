@@ -10,13 +10,14 @@ use lib.ListN.{getD}
 use Rattle.facts.specs.Facts.{has}
 use Rattle.rules.specs.Plans.{Plan}
 use Rattle.rules.specs.Table.{InOrder}
-use Rattle.states.specs.State.{Search, Dead, late, Plans}
+use Rattle.states.specs.State.{Search, Dead, Keeps, Plans}
+use Rattle.states.specs.Count.{undecided}
 use Rattle.orders.specs.declared.State.{State}
 use Rattle.flaws.specs.declared.Choice.{Choice}
 use Rattle.flaws.specs.declared.Ask.{Ask}
 use Rattle.search.specs.declared.Settled.{Settled}
 use Rattle.search.specs.declared.Answer.{Answer}
-use Rattle.orders.specs.View.{view, FreeJob, FreePair, Prunes, Takes, AllTakes}
+use Rattle.orders.specs.View.{view, FreeJob, FreePair, IsIn, IsOut, Before, NotBefore, Prunes, Takes, AllTakes}
 use Rattle.flaws.specs.Flaw.{Sizes, Lent, NoFlaw}
 
 -- a is over before b, both are inside, and b could not start that early
@@ -48,9 +49,20 @@ pub record Raised (s : State) (a step : ℕ) (r : Settled) : Type 0 where
   pub dead : r .ok ≡ false → (P : Search) → InOrder (P .problem) → Takes a step P → Dead P (view s)
 
 pub record SettledBy (s : State) (S : List ℕ) (r : Settled) : Type 0 where
-  pub keeps : r .ok ≡ true → Prunes (AllTakes S) s (r .state)
+  pub keeps : Prunes (AllTakes S) s (r .state)
   pub steady : r .ok ≡ true → Steady (r .state) S 24
-  pub dead : r .ok ≡ false → (P : Search) → InOrder (P .problem) → AllTakes S P → Dead P (view s)
+  pub dead : r .ok ≡ false → (P : Search) → InOrder (P .problem) → AllTakes S P → Dead P (view (r .state))
+
+-- the lower bounds are settled, or no plan is left
+pub record AtRest (Ok : Search → Type 0) (S : List ℕ) (q : Settled) : Type 0 where
+  pub steady : q .ok ≡ true → Steady (q .state) S 24
+  pub dead : q .ok ≡ false → (P : Search) → Ok P → Dead P (view (q .state))
+
+-- s pruned: every plan is kept, no choice is opened, and it is at rest
+pub record PrunedTo (Ok : Search → Type 0) (S : List ℕ) (s : State) (q : Settled) : Type 0 where
+  pub keeps : (P : Search) → Ok P → Keeps P (view s) (view (q .state))
+  pub fewer : undecided (view (q .state)) ≤ undecided (view s)
+  pub rest : AtRest Ok S q
 
 -- job j, if it is inside, is a job, not barred, in its window and in the bound
 pub record Stands (s : State) (j dur bound count : ℕ) : Type 0 where
@@ -84,9 +96,20 @@ pub record Answers (Ok : Search → Type 0) (s : State) (r : Answer) : Type 0 wh
   pub found : r .found ≡ true → (P : Search) → Ok P → Plans P (view s) (planOf (r .starts))
   pub none : r .found ≡ false → (P : Search) → Ok P → Dead P (view s)
 
-pub record Chosen (s : State) (c : Choice) : Type 0 where
-  pub job : c .kind ≡ 2 → FreeJob s (c .x)
-  pub pair : c .kind ≢ 2 → FreePair s (c .x) (c .y)
+-- what a choice says of its job, or of its pair
+pub record ByKind (c : Choice) (J R : Type 0) : Type 0 where
+  pub job : c .kind ≡ 2 → J
+  pub pair : c .kind ≢ 2 → R
+
+abbrev pub Chosen : State → Choice → Type 0
+Chosen s c = ByKind c (FreeJob s (c .x)) (FreePair s (c .x) (c .y))
+
+-- what its first repair claims, and its second
+abbrev pub First : Choice → Search → Plan → Type 0
+First c P Q = ByKind c (IsIn (c .x) P Q) (Before (c .x) (c .y) P Q)
+
+abbrev pub Second : Choice → Search → Plan → Type 0
+Second c P Q = ByKind c (IsOut (c .x) P Q) (NotBefore (c .x) (c .y) P Q)
 
 abbrev pub EndsAll : List ℕ → Ask → Search → Type 0
 EndsAll S ask P = (P .problem .count ≡ ask .count) × ((P .bound ≡ ask .bound) × ((j : ℕ) → j < 24 → P .problem .duration j ≡ getD S j 0))

@@ -4,9 +4,9 @@ ghost use Prim.Native.Nat.{ℕ, _<_};
 ghost use lib.Dec.{T};
 ghost use lib.ListN.{length, getD};
 ghost use Rattle.facts.specs.Facts.{has, Decides};
-ghost use Rattle.orders.specs.View.{Tries, IsIn, IsOut, Before, NotBefore, FreeJob, FreePair};
+ghost use Rattle.orders.specs.View.{Tries};
 ghost use Rattle.flaws.specs.Flaw.{Sizes, Lent};
-ghost use Rattle.search.specs.Leaf.{Violated, Finds, RowSteady, Steady, Raised, SettledBy, StandsIf, AllStand, Checks, Ends, startOf, Answers, Chosen, EndsAll, Some, LeafOk};
+ghost use Rattle.search.specs.Leaf.{Violated, Finds, RowSteady, Steady, Raised, SettledBy, StandsIf, AllStand, Checks, Ends, startOf, Answers, Chosen, First, Second, EndsAll, Some, LeafOk, AtRest, PrunedTo};
 use flaws::Ask;
 use flaws::Choice;
 use orders::State;
@@ -21,37 +21,29 @@ pub struct Answer {
     pub starts: [u16; 24],
 }
 
-// The first repair: the job is in.
-fn take_job(s: State, x: usize) -> State
-    requires { ⌜ FreeJob s x ⌝ }
-    ensures { λ r. ⌜ Tries (IsIn x) s r ⌝ }
+// The first repair: the job is in, or x is over before y.
+fn taken(s: State, c: Choice) -> State
+    requires { ⌜ Chosen s c ⌝ }
+    ensures { λ r. ⌜ Tries (First c) s r ⌝ }
 {
-    orders::put_inside(s, x)
-}
-
-// The second repair: the job is out.
-fn drop_job(s: State, x: usize) -> State
-    requires { ⌜ FreeJob s x ⌝ }
-    ensures { λ r. ⌜ Tries (IsOut x) s r ⌝ }
-{
-    orders::put_barred(s, x)
-}
-
-// The first repair: x is over before y.
-fn take_pair(s: State, x: usize, y: usize) -> State
-    requires { ⌜ FreePair s x y ⌝ }
-    ensures { λ r. ⌜ Tries (Before x y) s r ⌝ }
-{
+    let x = c.x;
     let t = orders::put_inside(s, x);
-    orders::put_sure(t, x, y)
+    if c.kind == 2 {
+        return t;
+    }
+    orders::put_sure(t, x, c.y)
 }
 
-// The second repair: x is not over before y.
-fn drop_pair(s: State, x: usize, y: usize) -> State
-    requires { ⌜ FreePair s x y ⌝ }
-    ensures { λ r. ⌜ Tries (NotBefore x y) s r ⌝ }
+// The second repair: the job is out, or x is not over before y.
+fn dropped(s: State, c: Choice) -> State
+    requires { ⌜ Chosen s c ⌝ }
+    ensures { λ r. ⌜ Tries (Second c) s r ⌝ }
 {
-    orders::put_never(s, x, y)
+    let x = c.x;
+    if c.kind == 2 {
+        return orders::put_barred(s, x);
+    }
+    orders::put_never(s, x, c.y)
 }
 
 // a is over before b, both are in, and b may start too early for that.
@@ -252,8 +244,8 @@ fn leaf(
     }
 }
 
-// A plan that stays in the state, or that there is none: a flaw is picked.
-pub fn pick(
+// The state pruned and settled, no plan lost. Called in three places, so that it is not taken into the recursion.
+fn pruned(
     s: State,
     ask: Ask,
     conds: &[u64],
@@ -261,18 +253,33 @@ pub fn pick(
     killers: &[u32],
     steps: &[u16],
     hits: &[u32],
-) -> Answer
+) -> Settled
     requires { ⌜ Sizes (now conds) (now adders) (now killers) (now steps) (now hits) × Some (Lent (now conds) (now adders) (now killers) (now steps) (now hits) ask) ⌝ }
-    ensures { λ r. ⌜ Answers (Lent (now (conds .entry)) (now (adders .entry)) (now (killers .entry)) (now (steps .entry)) (now (hits .entry)) ask) s r ⌝ }
+    ensures { λ r. ⌜ PrunedTo (Lent (now (conds .entry)) (now (adders .entry)) (now (killers .entry)) (now (steps .entry)) (now (hits .entry)) ask) (now (steps .entry)) s r ⌝ }
 {
     let t = prune::tighten(s, ask, conds, adders, killers, steps, hits);
     if orders::broken(t) {
-        return Answer {
-            found: false,
-            starts: [0u16; 24],
+        return Settled {
+            ok: false,
+            state: t,
         };
     }
-    let q = settle(t, steps);
+    settle(t, steps)
+}
+
+// A plan that stays in the pruned state, or that there is none: a flaw is picked.
+fn pick(
+    q: Settled,
+    ask: Ask,
+    conds: &[u64],
+    adders: &[u32],
+    killers: &[u32],
+    steps: &[u16],
+    hits: &[u32],
+) -> Answer
+    requires { ⌜ AtRest (Lent (now conds) (now adders) (now killers) (now steps) (now hits) ask) (now steps) q × (Sizes (now conds) (now adders) (now killers) (now steps) (now hits) × Some (Lent (now conds) (now adders) (now killers) (now steps) (now hits) ask)) ⌝ }
+    ensures { λ r. ⌜ Answers (Lent (now (conds .entry)) (now (adders .entry)) (now (killers .entry)) (now (steps .entry)) (now (hits .entry)) ask) (q .state) r ⌝ }
+{
     let ok = q.ok;
     if !ok {
         return Answer {
@@ -308,20 +315,29 @@ fn attempt(
     requires { ⌜ Chosen s c × (Sizes (now conds) (now adders) (now killers) (now steps) (now hits) × Some (Lent (now conds) (now adders) (now killers) (now steps) (now hits) ask)) ⌝ }
     ensures { λ r. ⌜ Answers (Lent (now (conds .entry)) (now (adders .entry)) (now (killers .entry)) (now (steps .entry)) (now (hits .entry)) ask) s r ⌝ }
 {
-    let x = c.x;
-    if c.kind == 2 {
-        let a = pick(take_job(s, x), ask, conds, adders, killers, steps, hits);
-        let ok = a.found;
-        if ok {
-            return a;
-        }
-        return pick(drop_job(s, x), ask, conds, adders, killers, steps, hits);
-    }
-    let y = c.y;
-    let a = pick(take_pair(s, x, y), ask, conds, adders, killers, steps, hits);
+    let t = pruned(taken(s, c), ask, conds, adders, killers, steps, hits);
+    let a = pick(t, ask, conds, adders, killers, steps, hits);
     let ok = a.found;
     if ok {
         return a;
     }
-    pick(drop_pair(s, x, y), ask, conds, adders, killers, steps, hits)
+    let d = pruned(dropped(s, c), ask, conds, adders, killers, steps, hits);
+    pick(d, ask, conds, adders, killers, steps, hits)
+}
+
+// A plan that stays in the state, or that there is none.
+pub fn find_plan(
+    s: State,
+    ask: Ask,
+    conds: &[u64],
+    adders: &[u32],
+    killers: &[u32],
+    steps: &[u16],
+    hits: &[u32],
+) -> Answer
+    requires { ⌜ Sizes (now conds) (now adders) (now killers) (now steps) (now hits) × Some (Lent (now conds) (now adders) (now killers) (now steps) (now hits) ask) ⌝ }
+    ensures { λ r. ⌜ Answers (Lent (now (conds .entry)) (now (adders .entry)) (now (killers .entry)) (now (steps .entry)) (now (hits .entry)) ask) s r ⌝ }
+{
+    let q = pruned(s, ask, conds, adders, killers, steps, hits);
+    pick(q, ask, conds, adders, killers, steps, hits)
 }

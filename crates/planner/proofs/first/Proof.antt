@@ -14,14 +14,14 @@ Inv-loop ask conds adders killers steps hits ok base₀ f₀ n k₀ base f k = (
 abbrev μ-loop : tie.MeasureT-loop
 μ-loop ask conds adders killers steps hits ok base₀ f₀ n k₀ base f k = ask .count - k
 
-pick-requires : tie.Need-pick-requires Inv-loop μ-loop
-pick-requires c κs = c .before .before .before .before .before .pre .1
+find-plan-requires : tie.Need-find-plan-requires Inv-loop μ-loop
+find-plan-requires c κs = c .before .before .before .before .before .pre .1
 
 returns : tie.Need-returns Inv-loop μ-loop
-returns c = ll.first-none (Lent (c .before .before .before .before .before .before .before .args .conds .now) (c .before .before .before .before .before .before .before .args .adders .now) (c .before .before .before .before .before .before .before .args .killers .now) (c .before .before .before .before .before .before .before .args .steps .now) (c .before .before .before .before .before .before .before .args .hits .now) (c .before .before .before .before .before .before .before .args .ask)) ll.wf-of (c .before .before .before .before .before .before .before .args .ask .count) ll.count-of (c .before .before .before .before .before .before .before .args .root) (c .before .before .before .before .before .before .before .pre .0) (c .before .pick .ensures) (not-true _ (c .if1 .taken))
+returns c = ll.first-none (Lent (c .before .before .before .before .before .before .before .args .conds .now) (c .before .before .before .before .before .before .before .args .adders .now) (c .before .before .before .before .before .before .before .args .killers .now) (c .before .before .before .before .before .before .before .args .steps .now) (c .before .before .before .before .before .before .before .args .hits .now) (c .before .before .before .before .before .before .before .args .ask)) ll.wf-of (c .before .before .before .before .before .before .before .args .ask .count) ll.count-of (c .before .before .before .before .before .before .before .args .root) (c .before .before .before .before .before .before .before .pre .0) (c .before .find-plan .ensures) (not-true _ (c .if1 .taken))
 
 loop-holds : tie.Need-loop-holds Inv-loop μ-loop
-loop-holds c = (omega arith, ll.first-begin (Lent (c .before .before .before .before .before .before .before .before .args .conds .now) (c .before .before .before .before .before .before .before .before .args .adders .now) (c .before .before .before .before .before .before .before .before .args .killers .now) (c .before .before .before .before .before .before .before .before .args .steps .now) (c .before .before .before .before .before .before .before .before .args .hits .now) (c .before .before .before .before .before .before .before .before .args .ask)) ll.wf-of (c .before .before .before .before .before .before .before .before .args .ask .count) ll.count-of (c .before .before .before .before .before .before .before .before .args .root) (c .before .before .before .before .before .before .before .before .pre .0) (c .before .before .pick .ensures) (not-false _ (c .before .if1 .left)))
+loop-holds c = (omega arith, ll.first-begin (Lent (c .before .before .before .before .before .before .before .before .args .conds .now) (c .before .before .before .before .before .before .before .before .args .adders .now) (c .before .before .before .before .before .before .before .before .args .killers .now) (c .before .before .before .before .before .before .before .before .args .steps .now) (c .before .before .before .before .before .before .before .before .args .hits .now) (c .before .before .before .before .before .before .before .before .args .ask)) ll.wf-of (c .before .before .before .before .before .before .before .before .args .ask .count) ll.count-of (c .before .before .before .before .before .before .before .before .args .root) (c .before .before .before .before .before .before .before .before .pre .0) (c .before .before .find-plan .ensures) (not-false _ (c .before .if1 .left)))
 
 settle-job-requires : tie.Need-settle-job-requires Inv-loop μ-loop
 settle-job-requires c κs = (c .before .loop .inv .1, (omega (arith, c .before .before .before .before .before .before .before .before .before .before .pre .1 .1 .1 .known .count, c .before .before .before .before .before .before .before .before .before .before .pre .1 .1 .1 .known .count-is), (omega arith, c .before .before .before .before .before .before .before .before .before .before .pre .1)))
@@ -44,7 +44,7 @@ first-spec =
     (tie.spec
     Inv-loop
     μ-loop
-    pick-requires
+    find-plan-requires
     returns
     loop-holds
     settle-job-requires

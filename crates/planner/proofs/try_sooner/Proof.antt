@@ -20,20 +20,20 @@ mul-if2 c = search needs
 element-copy-out-if2 : tie.Need-element-copy-out-if2
 element-copy-out-if2 c = search needs
 
-pick-requires : tie.Need-pick-requires
-pick-requires c κs = search needs
+find-plan-requires : tie.Need-find-plan-requires
+find-plan-requires c κs = search needs
 
 returns-2 : tie.Need-returns-2
-returns-2 c = ll.sooner-in (c .before .before .before .before .before .before .before .before .before .before .args .t) (c .before .before .before .put-inside .ensures) (omega arith) (c .pick .ensures)
+returns-2 c = ll.sooner-in (c .before .before .before .before .before .before .before .before .before .before .args .t) (c .before .before .before .put-inside .ensures) (omega arith) (c .find-plan .ensures)
 
 put-hi-requires : tie.Need-put-hi-requires
 put-hi-requires c κs = search needs
 
-pick-requires-2 : tie.Need-pick-requires-2
-pick-requires-2 c κs = search needs
+find-plan-requires-2 : tie.Need-find-plan-requires-2
+find-plan-requires-2 c κs = search needs
 
 returns-3 : tie.Need-returns-3
-returns-3 c = ll.sooner-hi (c .before .before .before .before .before .before .before .before .before .before .before .args .t) (c .before .before .before .before .before .before .before .before .before .before .before .args .t - 1) (c .before .before .before .before .put-inside .ensures) (c .before .put-hi .ensures) (omega arith) (omega arith) (c .pick2 .ensures)
+returns-3 c = ll.sooner-hi (c .before .before .before .before .before .before .before .before .before .before .before .args .t) (c .before .before .before .before .before .before .before .before .before .before .before .args .t - 1) (c .before .before .before .before .put-inside .ensures) (c .before .put-hi .ensures) (omega arith) (omega arith) (c .find-plan2 .ensures)
 
 pub try-sooner-spec : {M : Type 1} → statement M
 try-sooner-spec =
@@ -44,8 +44,8 @@ try-sooner-spec =
     put-inside-requires
     mul-if2
     element-copy-out-if2
-    pick-requires
+    find-plan-requires
     returns-2
     put-hi-requires
-    pick-requires-2
+    find-plan-requires-2
     returns-3)

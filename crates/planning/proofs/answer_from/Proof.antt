@@ -25,26 +25,26 @@ first-requires c κs = search needs
 returns : tie.Need-returns
 returns c = record { whole = λ e. c .first .ensures; any = λ e. absurd (true≢false (sym (c .before .before .before .before .before .before .if1 .taken) ∙ e)) }
 
-slice-aggregate-pick : tie.Need-slice-aggregate-pick
-slice-aggregate-pick c = search needs
+slice-aggregate-find-plan : tie.Need-slice-aggregate-find-plan
+slice-aggregate-find-plan c = search needs
 
-slice-aggregate-pick-2 : tie.Need-slice-aggregate-pick-2
-slice-aggregate-pick-2 c = search needs
+slice-aggregate-find-plan-2 : tie.Need-slice-aggregate-find-plan-2
+slice-aggregate-find-plan-2 c = search needs
 
-slice-aggregate-pick-3 : tie.Need-slice-aggregate-pick-3
-slice-aggregate-pick-3 c = search needs
+slice-aggregate-find-plan-3 : tie.Need-slice-aggregate-find-plan-3
+slice-aggregate-find-plan-3 c = search needs
 
-slice-aggregate-pick-4 : tie.Need-slice-aggregate-pick-4
-slice-aggregate-pick-4 c = search needs
+slice-aggregate-find-plan-4 : tie.Need-slice-aggregate-find-plan-4
+slice-aggregate-find-plan-4 c = search needs
 
-slice-aggregate-pick-5 : tie.Need-slice-aggregate-pick-5
-slice-aggregate-pick-5 c = search needs
+slice-aggregate-find-plan-5 : tie.Need-slice-aggregate-find-plan-5
+slice-aggregate-find-plan-5 c = search needs
 
-pick-requires : tie.Need-pick-requires
-pick-requires c κs = search needs
+find-plan-requires : tie.Need-find-plan-requires
+find-plan-requires c κs = search needs
 
 returns-2 : tie.Need-returns-2
-returns-2 c = record { whole = λ e. absurd (true≢false (sym e ∙ c .before .before .before .before .before .before .if1 .left)); any = λ e. c .pick .ensures }
+returns-2 c = record { whole = λ e. absurd (true≢false (sym e ∙ c .before .before .before .before .before .before .if1 .left)); any = λ e. c .find-plan .ensures }
 
 pub answer-from-spec : {M : Type 1} → statement M
 answer-from-spec =
@@ -57,10 +57,10 @@ answer-from-spec =
     slice-aggregate-first-5
     first-requires
     returns
-    slice-aggregate-pick
-    slice-aggregate-pick-2
-    slice-aggregate-pick-3
-    slice-aggregate-pick-4
-    slice-aggregate-pick-5
-    pick-requires
+    slice-aggregate-find-plan
+    slice-aggregate-find-plan-2
+    slice-aggregate-find-plan-3
+    slice-aggregate-find-plan-4
+    slice-aggregate-find-plan-5
+    find-plan-requires
     returns-2)
