@@ -18,6 +18,7 @@ pub struct Loaded {
 }
 
 // The numbers that a call is made with; set and pairs are settling's.
+#[repr(C)]
 pub struct Ask {
     pub jobs: usize,
     pub atoms: u8,
@@ -29,6 +30,7 @@ pub struct Ask {
 }
 
 // What every call says: number and place, both 0 on success, and the number returned.
+#[repr(C)]
 pub struct Answer {
     pub number: u8,
     pub place: u16,

@@ -1,0 +1,70 @@
+-- What was read fits the lent records: at most 24 jobs, and a record for each; on refusal no record is changed.
+-- Assumes nothing.
+use mathlib.Core.Path.{_≡_, refl, ap, _∙_}
+use mathlib.Core.Logic.{_≢_}
+use mathlib.Core.Bool.{Bool, true, false, cond}
+use mathlib.Core.List.{List}
+use Prim.Native.Nat.{ℕ, _≤_}
+use native.Mathlib.Omega.{arith}
+use lib.Dec.{T, eqb}
+use lib.ListN.{length}
+use borrow.Author.Tests.{eqb-true}
+use Rattle.rules.specs.Refusals.{Verdict, refuseIf}
+use Rattle.tables.specs.declared.Loaded.{Loaded}
+use Rattle.tables.specs.declared.Ask.{Ask}
+use Rattle.tables.specs.declared.Answer.{Answer}
+use Rattle.tables.specs.Tables.{answer}
+use Rattle.jobfile.specs.Format.{trailerIn, askIn, recordsIn, tableIn}
+use Rattle.jobfile.specs.Calls.{saveChecks, readChecks, whole, nothing, reading}
+use Rattle.jobfile.proofs.Checks.{at-most, problem-accepts, problem-count}
+use Rattle.records.specs.declared.Action.{Action}
+use Rattle.records.specs.Records.{placed}
+use Rattle.front.specs.declared.ReadAnswer.{ReadAnswer}
+use Rattle.front.specs.Files.{Reads}
+
+-- a check that says 0 does not refuse, and what comes behind it says 0
+passes : (b : Bool) (n k : ℕ) (v : Verdict) → n ≢ 0 → refuseIf b n k v .number ≡ 0 → (T b → ⊥) × (v .number ≡ 0)
+unfolding refuseIf
+passes true n k v ne h = absurd (ne h)
+passes false n k v ne h = (λ x. x, h)
+
+abbrev Fit : ℕ → ℕ → Type 0
+Fit jobs room = (jobs ≤ 24) × (jobs ≤ room)
+
+-- where the reader accepts, the checks of records and jobs were passed
+accepted-fits : (file : List ℕ) (room : ℕ) → readChecks file room .number ≡ 0 → Fit (askIn (trailerIn file) .jobs) room
+unfolding readChecks saveChecks
+accepted-fits file room z =
+    let q = askIn (trailerIn file) in
+    let l = tableIn (recordsIn file) (q .jobs) room in
+    let h = passes _ 2 0 _ (λ e. omega arith) (passes _ 2 0 _ (λ e. omega arith) (passes _ 2 0 _ (λ e. omega arith) (passes _ 1 0 _ (λ e. omega arith) z .1) .1) .1) .1 in
+    (problem-count false l q (problem-accepts false l q h), at-most room (q .jobs) (passes _ 3 0 _ (λ e. omega arith) h .0))
+
+-- on refusal there are no jobs
+either-fits : (b : Bool) (a : Answer) (q : Ask) (l : Loaded) (room : ℕ) → (b ≡ true → Fit (q .jobs) room) → Fit (cond b (whole a q l) (nothing a) .ask .jobs) room
+either-fits true a q l room h = h refl
+either-fits false a q l room h = (omega arith, omega arith)
+
+pub reading-fits : (file : List ℕ) (room : ℕ) → Fit (reading file room .ask .jobs) room
+reading-fits file room = either-fits (eqb (readChecks file room .number) 0) _ _ _ room (λ e. accepted-fits file room (eqb-true (readChecks file room .number) 0 e))
+
+-- ── refusal ──
+
+-- whatever the checks say, the answer says it
+either-says : (b : Bool) (a : Answer) (q : Ask) (l : Loaded) → cond b (whole a q l) (nothing a) .answer ≡ a
+either-says true a q l = refl
+either-says false a q l = refl
+
+pub reading-says : (file : List ℕ) (room : ℕ) → reading file room .answer ≡ answer (readChecks file room) 0 0
+reading-says file room = either-says (eqb (readChecks file room .number) 0) _ _ _
+
+either-old : (b : Bool) (a : Answer) (q : Ask) (l : Loaded) (old : List Action) → (b ≡ true → ⊥) → placed (cond b (whole a q l) (nothing a) .table) (cond b (whole a q l) (nothing a) .ask .jobs) old ≡ old
+unfolding placed
+either-old true a q l old ne = absurd (ne refl)
+either-old false a q l old ne = refl
+
+pub refused-old : (file : List ℕ) (old new : List Action) (r : ReadAnswer) → Reads file old new r → (r .answer .number ≡ 0 → ⊥) → new ≡ old
+refused-old file old new r x ne =
+    x .records
+    ∙ either-old (eqb (readChecks file (length old) .number) 0) _ _ _ old
+    (λ e. ne (ap (λ (s : ReadAnswer). s .answer .number) (x .says) ∙ (ap (λ (a : Answer). a .number) (reading-says file (length old)) ∙ eqb-true (readChecks file (length old) .number) 0 e)))

@@ -1,0 +1,69 @@
+-- Two results of one call that meet its promise are equal: the answer and all lent memory, refusals included. Over lent records each is the theorem of the call on numbers, at the table of those records.
+-- Assumes nothing.
+use mathlib.Core.Path.{_≡_, sym, ap₂, _∙_}
+use mathlib.Core.List.{List}
+use Prim.Native.Nat.{ℕ}
+use lib.Dec.{ltb}
+use lib.ListN.{length}
+use Rattle.rules.specs.Refusals.{accepted}
+use Rattle.tables.specs.declared.Loaded.{Loaded}
+use Rattle.tables.specs.declared.Ask.{Ask}
+use Rattle.tables.specs.declared.Answer.{Answer}
+use Rattle.tables.specs.Tables.{answer}
+use Rattle.verdict.specs.Offered.{offered}
+use Rattle.verdict.proofs.Only as verdict
+use Rattle.bindings.specs.Bindings.{Supports, Pairs}
+use Rattle.bindings.proofs.Only as bindings
+use Rattle.estimates.specs.Earliest.{Earliest}
+use Rattle.estimates.proofs.Only as estimates
+use Rattle.settle.specs.Settle.{Settling}
+use Rattle.settle.proofs.Only as settle
+use Rattle.planning.specs.Planning.{PlansWithin, BoundsWithin}
+use Rattle.planning.proofs.Only as planning
+use Rattle.jobfile.specs.Calls.{Writes}
+use Rattle.jobfile_write.proofs.Only as jobfile_write
+use Rattle.records.specs.declared.Action.{Action}
+use Rattle.records.specs.Records.{loaded}
+use Rattle.front.specs.declared.ReadAnswer.{ReadAnswer}
+use Rattle.front.specs.declared.JobFile.{JobFile}
+use Rattle.front.specs.declared.Save.{Save}
+use Rattle.front.specs.Files.{whole, Reads, FileRead}
+
+module _ (ts : List Action) (q : Ask) (r s : Answer) where
+  abbrev l : Loaded
+  l = loaded ts
+
+  pub check-plan-only : (starts : List ℕ) → r ≡ answer (offered (ltb (length starts) (q .jobs)) l q starts accepted) 0 0
+      → s ≡ answer (offered (ltb (length starts) (q .jobs)) l q starts accepted) 0 0 → r ≡ s
+  check-plan-only starts = verdict.check-plan-only l q starts r s
+
+  module _ (old new new′ : List ℕ) where
+    pub supports-only : (starts : List ℕ) → Supports l q starts old new r → Supports l q starts old new′ s → _≡_ {A = Answer × List ℕ} (r, new) (s, new′)
+    supports-only starts = bindings.supports-only l q starts old new new′ r s
+
+    pub binding-pairs-only : (starts : List ℕ) → Pairs l q starts old new r → Pairs l q starts old new′ s → _≡_ {A = Answer × List ℕ} (r, new) (s, new′)
+    binding-pairs-only starts = bindings.binding-pairs-only l q starts old new new′ r s
+
+    pub settle-only : (pairs : List ℕ) → Settling l q pairs old r new → Settling l q pairs old s new′ → (r ≡ s) × (new ≡ new′)
+    settle-only pairs = settle.settle-only l q pairs old r s new new′
+
+    pub earliest-only : Earliest l q old r new → Earliest l q old s new′ → (r ≡ s) × (new ≡ new′)
+    earliest-only = estimates.earliest-only l q old r s new new′
+
+    pub plan-within-only : PlansWithin l q old r new → PlansWithin l q old s new′ → (r ≡ s) × (new ≡ new′)
+    plan-within-only = planning.plan-within-only l q old r s new new′
+
+    pub least-bound-only : BoundsWithin l q old r new → BoundsWithin l q old s new′ → (r ≡ s) × (new ≡ new′)
+    least-bound-only = planning.least-bound-only l q old r s new new′
+
+-- what is saved is one struct
+pub write-file-only : (ts : List Action) (w : Save) (old new new′ : List ℕ) (r s : Answer) → Writes (loaded ts) (w .ask) (w .used) old new r → Writes (loaded ts) (w .ask) (w .used) old new′ s → (r ≡ s) × (new ≡ new′)
+write-file-only ts w old new new′ r s = jobfile_write.write-file-only (loaded ts) (w .ask) (w .used) old new new′ r s
+
+-- ── the reader ──
+
+pub read-file-only : (file : List ℕ) (old new new′ : List Action) (r s : ReadAnswer) → Reads file old new r → Reads file old new′ s → (r ≡ s) × (new ≡ new′)
+read-file-only file old new new′ r s x y = (x .says ∙ sym (y .says), x .records ∙ sym (y .records))
+
+pub read-array-only : (file : List ℕ) (r s : JobFile) → FileRead file r → FileRead file s → r ≡ s
+read-array-only file r s x y = ap₂ whole (x .says ∙ sym (y .says)) (x .records ∙ sym (y .records))

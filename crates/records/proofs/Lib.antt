@@ -1,0 +1,4 @@
+pub mod Laws
+pub mod Lies
+pub mod Only
+pub mod Arrays

@@ -1,0 +1,58 @@
+-- The job records as they lie in the caller's slice, and the table by value that holds them field by field.
+-- Assumes nothing.
+use mathlib.Core.List.{List}
+use Prim.Native.Nat.{ℕ, zero, suc, min}
+use lib.ListN.{length, getD, set, replicate}
+use Rattle.tables.specs.declared.Loaded.{Loaded}
+use Rattle.tables.specs.Tables.{filled}
+use Rattle.records.specs.declared.Action.{Action}
+
+-- what stands for a record where none lies
+abbrev pub noRecord : Action
+noRecord = record { conditions = 0; additions = 0; deletions = 0; duration = 0 }
+
+-- the record that lies at place i
+abbrev pub recordAt : List Action → ℕ → Action
+recordAt ts i = getD ts i noRecord
+
+-- one field of each of the first n records; 0 behind them
+abbrev pub column : (Action → ℕ) → List Action → (n : ℕ) → List ℕ
+column field ts n = filled (λ i. field (recordAt ts i)) n (replicate 24 0)
+
+-- the first n records field by field, where `lent` were lent
+abbrev pub firstOf : List Action → (n lent : ℕ) → Loaded
+firstOf ts n lent = record {
+  conditions = column (λ a. a .conditions) ts n;
+  additions = column (λ a. a .additions) ts n;
+  deletions = column (λ a. a .deletions) ts n;
+  durations = column (λ a. a .duration) ts n;
+  lent = lent;
+}
+
+-- the table by value of the lent records ts: the first 24, and how many were lent
+abbrev pub loaded : List Action → Loaded
+loaded ts = firstOf ts (min (length ts) 24) (length ts)
+
+-- the record becomes job i
+abbrev pub withRecord : Loaded → ℕ → Action → Loaded
+withRecord l i a = record {
+  conditions = set (l .conditions) i (a .conditions);
+  additions = set (l .additions) i (a .additions);
+  deletions = set (l .deletions) i (a .deletions);
+  durations = set (l .durations) i (a .duration);
+  lent = l .lent;
+}
+
+-- job i as a record
+abbrev pub recordOf : Loaded → ℕ → Action
+recordOf l i = record {
+  conditions = getD (l .conditions) i 0;
+  additions = getD (l .additions) i 0;
+  deletions = getD (l .deletions) i 0;
+  duration = getD (l .durations) i 0;
+}
+
+-- the lent records with jobs 0 to n - 1 in the first n places; the rest as it was
+unfoldable pub placed : Loaded → (n : ℕ) → List Action → List Action
+placed l zero ts = ts
+placed l (suc k) ts = set (placed l k ts) k (recordOf l k)
