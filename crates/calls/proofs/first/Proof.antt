@@ -1,0 +1,16 @@
+use lib.Seq.{length-take-le, take-length}
+use mathlib.Core.Path.{sym, ap}
+use native.Mathlib.Omega.{arith}
+use lib.ListN.{length}
+use Prim.Native.Nat.{_-_}
+use Rattle.calls.proofs.first.Statement.{statement}
+use Rattle.calls.proofs.first.Tie as tie
+
+returns : tie.Need-returns
+returns c = (omega arith, sym (length-take-le (c .before .args .n) (c .before .args .bytes .now) (omega arith)))
+
+returns-2 : tie.Need-returns-2
+returns-2 c = (omega arith, sym (ap length (take-length (c .before .args .bytes .now))))
+
+pub first-spec : {M : Type 1} → statement M
+first-spec = tie.close (tie.spec returns returns-2)
