@@ -82,7 +82,7 @@ pub struct Save {
 }
 
 // The save of a table by value.
-fn append(l: Loaded, s: Save, buf: &mut [u8]) -> Answer
+pub fn append(l: Loaded, s: Save, buf: &mut [u8]) -> Answer
     ensures { λ r. ⌜ Writes l (s .ask) (s .used) (now (buf .entry)) (now (buf .exit)) r ⌝ }
 {
     jobfile_write::write_file(l, s.ask, s.used, buf)

@@ -12,6 +12,7 @@ ghost use Rattle.readings.specs.Marks.{listed, markAt, outside, bad, onC
 ghost use Rattle.readings.specs.Opening.{byMarks, Opens};
 
 // What the probe sends: degrees and per cent.
+#[repr(C)]
 pub struct BenchReading {
     pub temperature: f64,
     pub humidity: f64,
@@ -25,6 +26,7 @@ pub struct Mark {
 }
 
 // Number and place are 0 on success; on refusal the facts are as given.
+#[repr(C)]
 pub struct Opening {
     pub number: u8,
     pub place: u16,

@@ -1,0 +1,138 @@
+// The library for C: every call under a name of its own, with the whole promise of the call and no condition on the caller.
+// Calls over lent records are built as those of `front` are, so that the walks there prove them as they stand.
+ghost use mathlib.Core.Path.{_≡_};
+ghost use lib.Dec.{ltb};
+ghost use lib.ListN.{length};
+ghost use Rattle.rules.specs.Refusals.{accepted};
+ghost use Rattle.tables.specs.Tables.{answer};
+ghost use Rattle.verdict.specs.Offered.{offered};
+ghost use Rattle.bindings.specs.Bindings.{Supports, Pairs};
+ghost use Rattle.estimates.specs.Earliest.{Earliest};
+ghost use Rattle.settle.specs.Settle.{Settling};
+ghost use Rattle.planning.specs.Planning.{PlansWithin, BoundsWithin};
+ghost use Rattle.jobfile.specs.Calls.{Writes};
+ghost use Rattle.records.specs.Records.{loaded};
+ghost use Rattle.front.specs.Files.{Reads};
+ghost use Rattle.readings.specs.Marks.{listed};
+ghost use Rattle.readings.specs.Opening.{Opens};
+ghost use Rattle.page.specs.Page.{Pages};
+use front::ReadAnswer;
+use front::Save;
+use readings::BenchReading;
+use readings::Opening;
+use records::Action;
+use tables::Answer;
+use tables::Ask;
+
+// The verdict on an offered plan.
+#[no_mangle]
+pub extern "C" fn nuzzlefleece_check_plan(t: &[Action], q: Ask, starts: &[u16]) -> Answer
+    ensures { λ r. ⌜ r ≡ answer (offered (ltb (length (now (starts .entry))) (q .jobs)) (loaded (now (t .entry))) q (now (starts .entry)) accepted) 0 0 ⌝ }
+{
+    let l = records::load(t);
+    verdict::check_plan(l, q, starts)
+}
+
+// The first valid plan within the bound, in the stated order.
+#[no_mangle]
+pub extern "C" fn nuzzlefleece_plan_within(t: &[Action], q: Ask, out: &mut [u16]) -> Answer
+    ensures { λ r. ⌜ PlansWithin (loaded (now (t .entry))) q (now (out .entry)) r (now (out .exit)) ⌝ }
+{
+    let l = records::load(t);
+    planning::plan_within(l, q, out)
+}
+
+// The least bound, with the first plan at it.
+#[no_mangle]
+pub extern "C" fn nuzzlefleece_least_bound(t: &[Action], q: Ask, out: &mut [u16]) -> Answer
+    ensures { λ r. ⌜ BoundsWithin (loaded (now (t .entry))) q (now (out .entry)) r (now (out .exit)) ⌝ }
+{
+    let l = records::load(t);
+    planning::least_bound(l, q, out)
+}
+
+// The table of supports of a valid plan, 64 bytes a job and 64 for End.
+#[no_mangle]
+pub extern "C" fn nuzzlefleece_supports(
+    t: &[Action],
+    q: Ask,
+    starts: &[u16],
+    out: &mut [u8],
+) -> Answer
+    ensures { λ r. ⌜ Supports (loaded (now (t .entry))) q (now (starts .entry)) (now (out .entry)) (now (out .exit)) r ⌝ }
+{
+    let l = records::load(t);
+    bindings::supports(l, q, starts, out)
+}
+
+// The binding pairs of a valid plan, two bytes a pair, and their count.
+#[no_mangle]
+pub extern "C" fn nuzzlefleece_binding_pairs(
+    t: &[Action],
+    q: Ask,
+    starts: &[u16],
+    out: &mut [u8],
+) -> Answer
+    ensures { λ r. ⌜ Pairs (loaded (now (t .entry))) q (now (starts .entry)) (now (out .entry)) (now (out .exit)) r ⌝ }
+{
+    let l = records::load(t);
+    bindings::binding_pairs(l, q, starts, out)
+}
+
+// The earliest estimates, one a job.
+#[no_mangle]
+pub extern "C" fn nuzzlefleece_earliest(t: &[Action], q: Ask, out: &mut [u16]) -> Answer
+    ensures { λ r. ⌜ Earliest (loaded (now (t .entry))) q (now (out .entry)) r (now (out .exit)) ⌝ }
+{
+    let l = records::load(t);
+    estimates::earliest(l, q, out)
+}
+
+// The least starts, one a job, for pairs of two bytes each.
+#[no_mangle]
+pub extern "C" fn nuzzlefleece_settle(t: &[Action], q: Ask, pairs: &[u8], out: &mut [u16]) -> Answer
+    ensures { λ r. ⌜ Settling (loaded (now (t .entry))) q (now (pairs .entry)) (now (out .entry)) r (now (out .exit)) ⌝ }
+{
+    let l = records::load(t);
+    settle::settle(l, q, pairs, out)
+}
+
+// Reads a job file into the lent records, one a job; those behind the last job stay as they are.
+#[no_mangle]
+pub extern "C" fn nuzzlefleece_read_file(file: &[u8], t: &mut [Action]) -> ReadAnswer
+    ensures { λ r. ⌜ Reads (now (file .entry)) (now (t .entry)) (now (t .exit)) r ⌝ }
+{
+    front::read_file(file, t)
+}
+
+// Appends a save behind the bytes used, and returns the new length.
+#[no_mangle]
+pub extern "C" fn nuzzlefleece_write_file(t: &[Action], s: Save, buf: &mut [u8]) -> Answer
+    ensures { λ r. ⌜ Writes (loaded (now (t .entry))) (s .ask) (s .used) (now (buf .entry)) (now (buf .exit)) r ⌝ }
+{
+    let l = records::load(t);
+    front::append(l, s, buf)
+}
+
+// Opening facts from a reading. The marks stand side by side in the three tables, the first `count` of each.
+#[no_mangle]
+pub extern "C" fn nuzzlefleece_opening_facts(
+    reading: BenchReading,
+    channels: &[u8],
+    levels: &[i16],
+    facts: &[u8],
+    count: usize,
+    given: u64,
+) -> Opening
+    ensures { λ a. ⌜ Opens reading (listed (now (channels .entry)) (now (levels .entry)) (now (facts .entry)) count) given a ⌝ }
+{
+    readings::opening_facts(reading, channels, levels, facts, count, given)
+}
+
+// What bench-plan prints of a job file, into the first bytes of a lent buffer; its length comes back.
+#[no_mangle]
+pub extern "C" fn nuzzlefleece_page(file: &[u8], out: &mut [u8]) -> Answer
+    ensures { λ r. ⌜ Pages (now (file .entry)) (now (out .entry)) (now (out .exit)) r ⌝ }
+{
+    page::page(file, out)
+}

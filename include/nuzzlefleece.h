@@ -1,0 +1,208 @@
+/*
+ * The planner for C programs on x86-64 Linux: link with libnuzzlefleece.a (docs/LINKING.md).
+ *
+ * Each function is proved to meet the promise in its comment for every input that its types allow: it ends, and any
+ * number in any field gets an answer. Beyond that a caller sees to this:
+ *  - a pointer and the length behind it, in elements, name memory of the caller that is aligned for its type;
+ *    with length 0 the pointer is not followed and may be null;
+ *  - memory that a call may fill overlaps no other memory lent to it, and nothing else changes lent memory meanwhile.
+ * A call keeps nothing afterwards: no heap, no global state, no threads. 2 MiB of stack serve every input.
+ *
+ * On success number and place are 0. A refusal gives its number and a place; lent memory is then unchanged, and the value
+ * is 0 unless a comment says otherwise. After success lent memory that the answer does not fill is unchanged.
+ */
+#ifndef NUZZLEFLEECE_H
+#define NUZZLEFLEECE_H
+
+#include <stddef.h>
+#include <stdint.h>
+
+#ifdef __cplusplus
+extern "C" {
+#endif
+
+/* Sizes and limits. A fact is a number below the atom count; a word of facts has fact 0 in its lowest bit. */
+enum {
+    NUZZLEFLEECE_OUT = 65535,           /* as a start: the job is not in the plan; as an estimate: never reachable */
+    NUZZLEFLEECE_MOST_JOBS = 24,
+    NUZZLEFLEECE_MOST_ATOMS = 64,
+    NUZZLEFLEECE_MOST_DURATION = 960,   /* quarter hours; the least is 1 */
+    NUZZLEFLEECE_MOST_BOUND = 2880,     /* quarter hours */
+    NUZZLEFLEECE_MOST_PAIRS = 600,      /* asked of settling */
+    NUZZLEFLEECE_MOST_MARKS = 16,
+    NUZZLEFLEECE_MOST_LEVEL = 1000,     /* tenths; the least is -1000 */
+    NUZZLEFLEECE_MOST_FILE = 65536,     /* bytes of a job file */
+    NUZZLEFLEECE_RECORD_BYTES = 32,     /* of a job, in a file */
+    NUZZLEFLEECE_TRAILER_BYTES = 24,    /* behind the records, in a file */
+    NUZZLEFLEECE_SUPPORT_ROW = 64,      /* bytes of the support table for a job, and for End behind the last job */
+    NUZZLEFLEECE_SUPPORTED_BY_START = 254,
+    NUZZLEFLEECE_NO_CONDITION = 255,
+    NUZZLEFLEECE_PAIRS_BYTES = 552,     /* lent for binding pairs: at most 276, two bytes each */
+    NUZZLEFLEECE_PAGE_BYTES = 8192      /* lent for the text of a page */
+};
+
+/* Refusals, checked in the order of their numbers. All that take or write a job table check 3 to 8, and 9 where there is a bound. */
+enum {
+    NUZZLEFLEECE_DONE = 0,
+    NUZZLEFLEECE_FILE_TOO_LONG = 1,      /* the file, or the file after appending, has over 65,536 bytes */
+    NUZZLEFLEECE_FILE_DAMAGED = 2,       /* under 24 bytes, distance out of range, or one of a record's last six bytes is not zero */
+    NUZZLEFLEECE_LENT_TOO_SHORT = 3,     /* lent memory is too short for the count given */
+    NUZZLEFLEECE_ATOMS_WRONG = 4,        /* the atom count is not 1 to 64 */
+    NUZZLEFLEECE_TOO_MANY_JOBS = 5,      /* more than 24 */
+    NUZZLEFLEECE_DURATION_WRONG = 6,     /* not 1 to 960; place: lowest job */
+    NUZZLEFLEECE_FACT_WRONG = 7,         /* at or above the atom count; place: lowest job, 24 for opening facts or goals */
+    NUZZLEFLEECE_ADDS_AND_DELETES = 8,   /* a job adds and deletes one fact; place: lowest job */
+    NUZZLEFLEECE_BOUND_WRONG = 9,        /* over 2,880 */
+    NUZZLEFLEECE_NO_PLAN = 10,           /* there is no valid plan within the bound */
+    NUZZLEFLEECE_ENDS_TOO_LATE = 11,     /* offered plan: a job ends after the bound; place: lowest job */
+    NUZZLEFLEECE_OVERLAP = 12,           /* offered plan: interfering jobs overlap; place: lower job of the first pair */
+    NUZZLEFLEECE_CONDITION_MISSING = 13, /* offered plan: at a start; place: lowest job */
+    NUZZLEFLEECE_GOAL_MISSING = 14,      /* offered plan; place: lowest fact */
+    NUZZLEFLEECE_PAIRS_WRONG = 15,       /* settling; place: 601 the set names no such job, 600 over 600 pairs, else the first pair with a job outside the set */
+    NUZZLEFLEECE_NO_STARTS = 16,         /* settling: no starts keep the pairs within the bound */
+    NUZZLEFLEECE_READING_WRONG = 17,     /* not finite or not -100 to 100; place: channel, lower first */
+    NUZZLEFLEECE_MARK_WRONG = 18         /* place: 16 for more than 16 marks, else the lowest mark out of range */
+};
+
+/* A job: three words of facts and the quarter hours it takes. */
+typedef struct nuzzlefleece_action {
+    uint64_t conditions;
+    uint64_t additions;
+    uint64_t deletions;
+    uint16_t duration;
+} nuzzlefleece_action;
+
+/* The numbers of a call; set and pairs are looked at by settling alone, the bound by all but the estimates. */
+typedef struct nuzzlefleece_ask {
+    size_t jobs;      /* how many of the lent records are jobs, numbered from 0 */
+    uint8_t atoms;    /* the atom count */
+    uint64_t opening; /* the facts that hold at 0 */
+    uint64_t goals;   /* the facts wanted at the bound */
+    uint16_t bound;
+    uint64_t set;     /* settling: the jobs to start, one bit each */
+    size_t pairs;     /* settling: how many ordered pairs are asked */
+} nuzzlefleece_ask;
+
+/* What a call says. */
+typedef struct nuzzlefleece_answer {
+    uint8_t number; /* NUZZLEFLEECE_DONE or a refusal */
+    uint16_t place; /* where the refusal was found */
+    uint32_t value; /* the number returned; 0 where a call returns none */
+} nuzzlefleece_answer;
+
+/* What a save is made of beside the records. */
+typedef struct nuzzlefleece_save {
+    nuzzlefleece_ask ask;
+    size_t used; /* how many bytes of the buffer are in use already */
+} nuzzlefleece_save;
+
+/* What reading a job file says beside the records. */
+typedef struct nuzzlefleece_read_answer {
+    nuzzlefleece_answer answer;
+    nuzzlefleece_ask ask; /* jobs, atoms, opening facts, goals and bound of the file; all 0 on refusal */
+} nuzzlefleece_read_answer;
+
+/* A bench reading as the probe sends it: degrees and per cent. */
+typedef struct nuzzlefleece_reading {
+    double temperature;
+    double humidity;
+} nuzzlefleece_reading;
+
+/* The facts from a reading; on refusal they are as given. */
+typedef struct nuzzlefleece_opening {
+    uint8_t number;
+    uint16_t place;
+    uint64_t facts;
+} nuzzlefleece_opening;
+
+/* The library has these layouts; another compiler's would stop here. */
+typedef char nuzzlefleece_layouts[sizeof(nuzzlefleece_action) == 32 && sizeof(nuzzlefleece_ask) == 56 && sizeof(nuzzlefleece_answer) == 8
+    && sizeof(nuzzlefleece_save) == 64 && sizeof(nuzzlefleece_read_answer) == 64 && sizeof(nuzzlefleece_opening) == 16 ? 1 : -1];
+
+/*
+ * Checks an offered plan, one start a job, NUZZLEFLEECE_OUT for a job that is out.
+ * Done exactly when the plan is valid. Refusals 3 to 9, then 11 to 14.
+ */
+nuzzlefleece_answer nuzzlefleece_check_plan(const nuzzlefleece_action *records, size_t lent, nuzzlefleece_ask ask,
+    const uint16_t *starts, size_t starts_lent);
+
+/*
+ * Plans within the bound: fills one start a job with the first valid plan in the stated order (job 0 first, then job 1;
+ * out comes before every start, an earlier start before a later one). Refusals 3 to 9; 10 exactly when no plan is valid.
+ */
+nuzzlefleece_answer nuzzlefleece_plan_within(const nuzzlefleece_action *records, size_t lent, nuzzlefleece_ask ask,
+    uint16_t *starts, size_t starts_lent);
+
+/*
+ * The value is the smallest number from 0 to the bound that has a valid plan; the starts are those of the first plan
+ * at that number. Refusals 3 to 9; 10 exactly when no plan is valid within the bound. On refusal the value is 65,535.
+ */
+nuzzlefleece_answer nuzzlefleece_least_bound(const nuzzlefleece_action *records, size_t lent, nuzzlefleece_ask ask,
+    uint16_t *starts, size_t starts_lent);
+
+/*
+ * Fills 64 bytes a job and 64 for End behind the last job, by fact: the job that supports this condition,
+ * NUZZLEFLEECE_SUPPORTED_BY_START, or NUZZLEFLEECE_NO_CONDITION where it is no condition or the job is out. If several fit,
+ * Start is named, else the lowest job. Refusals 3 to 9, then 11 to 14: only a valid plan has supports.
+ */
+nuzzlefleece_answer nuzzlefleece_supports(const nuzzlefleece_action *records, size_t lent, nuzzlefleece_ask ask,
+    const uint16_t *starts, size_t starts_lent, uint8_t *supports, size_t supports_lent);
+
+/*
+ * Fills two bytes a pair, first job then second, in order of first then second, each pair once: jobs that interfere, or of
+ * which the first is the named support of a condition of the second. The value is the count, at most 276; 552 bytes are
+ * to be lent. If the plan's jobs start and finish at other moments and each first job still finishes before its second starts,
+ * every job finds its conditions and the goals hold at the end. Refusals 3 to 9, then 11 to 14.
+ */
+nuzzlefleece_answer nuzzlefleece_binding_pairs(const nuzzlefleece_action *records, size_t lent, nuzzlefleece_ask ask,
+    const uint16_t *starts, size_t starts_lent, uint8_t *pairs, size_t pairs_lent);
+
+/*
+ * Fills one earliest estimate a job, NUZZLEFLEECE_OUT where it is never reachable. No valid plan starts a job before its
+ * estimate. Refusals 3 to 8.
+ */
+nuzzlefleece_answer nuzzlefleece_earliest(const nuzzlefleece_action *records, size_t lent, nuzzlefleece_ask ask,
+    uint16_t *estimates, size_t estimates_lent);
+
+/*
+ * Settles the jobs of ask.set: fills the least starts with which the first job of each of the ask.pairs pairs finishes no later
+ * than the second starts and all end by the bound; jobs outside the set get NUZZLEFLEECE_OUT. Two bytes a pair, at most 600 pairs.
+ * Conditions are not looked at. Refusals 3 to 9, 15 and 16.
+ */
+nuzzlefleece_answer nuzzlefleece_settle(const nuzzlefleece_action *records, size_t lent, nuzzlefleece_ask ask,
+    const uint8_t *pairs, size_t pairs_lent, uint16_t *starts, size_t starts_lent);
+
+/*
+ * Reads the last save of a job file: fills one record a job and gives the file's numbers. Refusals 1 to 9.
+ * 255 records lent take the count of any file, so that 3 cannot come; a count over 24 is then 5.
+ */
+nuzzlefleece_read_answer nuzzlefleece_read_file(const uint8_t *file, size_t file_length, nuzzlefleece_action *records, size_t lent);
+
+/*
+ * Appends a save of 32 bytes a job and 24 more behind the bytes of the buffer that are in use; the value is the new length in use.
+ * Reading what was written gives back what was saved. Refusals 1 and 3 to 9.
+ */
+nuzzlefleece_answer nuzzlefleece_write_file(const nuzzlefleece_action *records, size_t lent, nuzzlefleece_save save,
+    uint8_t *buffer, size_t buffer_length);
+
+/*
+ * Opening facts from a reading. A mark is a channel (0 temperature, 1 humidity), a level from -1000 to 1000 tenths and a fact below
+ * 64; the first `count` of each table are the marks. A mark is reached when the tenths, the largest whole number not above ten times
+ * the float's exact value, are at or above its level. A marked fact is set if every mark on it is reached, else cleared; other facts
+ * stay as given. Refusals 3, 17 and 18, with the facts as given.
+ */
+nuzzlefleece_opening nuzzlefleece_opening_facts(nuzzlefleece_reading reading, const uint8_t *channels, size_t channels_lent,
+    const int16_t *levels, size_t levels_lent, const uint8_t *facts, size_t facts_lent, size_t count, uint64_t given);
+
+/*
+ * The text that bench-plan prints of a job file, into the first bytes of the lent text; the value is its length, no zero byte ends it.
+ * A file that is refused, or has no plan, gives the line `refused`, number and place. The call itself refuses with 3 alone, where
+ * fewer than 8,192 bytes are lent.
+ */
+nuzzlefleece_answer nuzzlefleece_page(const uint8_t *file, size_t file_length, uint8_t *text, size_t text_lent);
+
+#ifdef __cplusplus
+}
+#endif
+
+#endif

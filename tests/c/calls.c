@@ -1,0 +1,201 @@
+/*
+ * Answers the stream of calls of tests/second/README.md through the C library, one line a call.
+ * Status 2 where the stream ends within a call or asks for more than tests/calls/call.py allows.
+ */
+#include <stdio.h>
+#include <stdlib.h>
+#include <string.h>
+
+#include "nuzzlefleece.h"
+
+enum { WORDS = 16, RECORD = 32, SAVED = 26, MOST_RECORDS = 255, MOST_OUT = 2048, MOST_TABLE = 65700 };
+
+/* One call as it stands in the stream, and what is lent to it. */
+static uint64_t head[WORDS];
+static nuzzlefleece_action records[MOST_RECORDS];
+static uint8_t table[MOST_TABLE];
+static uint16_t given[MOST_TABLE / 2];
+static uint8_t bytes_out[MOST_OUT];
+static uint16_t halves_out[MOST_OUT];
+
+static void stop_unless(int fine) {
+    if (!fine) {
+        exit(2);
+    }
+}
+
+static uint64_t number(const uint8_t *bytes, size_t count) {
+    uint64_t value = 0;
+    while (count > 0) {
+        value = value << 8 | bytes[--count];
+    }
+    return value;
+}
+
+static void exactly(void *to, uint64_t count, uint64_t most) {
+    stop_unless(count <= most);
+    stop_unless(fread(to, 1, count, stdin) == count);
+}
+
+/* The bytes of the given tables: one table, or the three mark tables in a row. */
+static uint64_t table_bytes(void) {
+    return head[0] == 10 ? head[9] + 2 * head[10] + head[11] : head[9];
+}
+
+static void read_records(void) {
+    uint8_t bytes[RECORD];
+    stop_unless(head[8] <= MOST_RECORDS);
+    for (size_t i = 0; i < head[8]; i++) {
+        exactly(bytes, RECORD, RECORD);
+        records[i].conditions = number(bytes, 8);
+        records[i].additions = number(bytes + 8, 8);
+        records[i].deletions = number(bytes + 16, 8);
+        records[i].duration = (uint16_t)number(bytes + 24, 2);
+    }
+}
+
+/* The next call; 0 at the end of the stream. */
+static int next_call(void) {
+    uint8_t bytes[8 * WORDS];
+    size_t got = fread(bytes, 1, sizeof bytes, stdin);
+    if (got == 0) {
+        return 0;
+    }
+    stop_unless(got == sizeof bytes);
+    for (size_t i = 0; i < WORDS; i++) {
+        head[i] = number(bytes + 8 * i, 8);
+    }
+    read_records();
+    stop_unless(head[9] <= MOST_TABLE && head[10] <= MOST_OUT && (head[0] != 10 || head[11] <= MOST_TABLE));
+    exactly(table, table_bytes(), MOST_TABLE);
+    return 1;
+}
+
+/* The given bytes as numbers of two bytes. */
+static const uint16_t *halves(const uint8_t *bytes, size_t count) {
+    for (size_t i = 0; i < count; i++) {
+        given[i] = (uint16_t)number(bytes + 2 * i, 2);
+    }
+    return given;
+}
+
+static void print_hex(const void *from, size_t count) {
+    static char text[2 * MOST_TABLE];
+    static const char digits[] = "0123456789abcdef";
+    const uint8_t *bytes = from;
+    for (size_t i = 0; i < count; i++) {
+        text[2 * i] = digits[bytes[i] >> 4];
+        text[2 * i + 1] = digits[bytes[i] & 15];
+    }
+    fwrite(text, 1, 2 * count, stdout);
+}
+
+static void print_answer(nuzzlefleece_answer answer) {
+    printf("%u %u %lu", (unsigned)answer.number, (unsigned)answer.place, (unsigned long)answer.value);
+}
+
+/* The answer and a lent table after the call. */
+static void print_with(nuzzlefleece_answer answer, const void *lent, size_t bytes) {
+    print_answer(answer);
+    printf(" ");
+    print_hex(lent, bytes);
+}
+
+static nuzzlefleece_ask ask(void) {
+    nuzzlefleece_ask q = {.jobs = head[1], .atoms = (uint8_t)head[2], .opening = head[3], .goals = head[4], .bound = (uint16_t)head[5]};
+    if (head[0] == 7) {
+        q.set = head[6];
+        q.pairs = head[7];
+    }
+    return q;
+}
+
+/* Calls 2, 3, 6 and 7 fill numbers of two bytes. */
+static void answer_in_halves(void) {
+    nuzzlefleece_answer answer;
+    size_t lent = head[8], out = head[10];
+    memset(halves_out, (int)(head[11] & 255), sizeof halves_out);
+    if (head[0] == 2) {
+        answer = nuzzlefleece_plan_within(records, lent, ask(), halves_out, out);
+    } else if (head[0] == 3) {
+        answer = nuzzlefleece_least_bound(records, lent, ask(), halves_out, out);
+    } else if (head[0] == 6) {
+        answer = nuzzlefleece_earliest(records, lent, ask(), halves_out, out);
+    } else {
+        answer = nuzzlefleece_settle(records, lent, ask(), table, head[9], halves_out, out);
+    }
+    print_with(answer, halves_out, 2 * out);
+}
+
+/* Calls 4 and 5 fill bytes. */
+static void answer_in_bytes(void) {
+    nuzzlefleece_answer answer;
+    const uint16_t *starts = halves(table, head[9] / 2);
+    memset(bytes_out, (int)(head[11] & 255), sizeof bytes_out);
+    if (head[0] == 4) {
+        answer = nuzzlefleece_supports(records, head[8], ask(), starts, head[9] / 2, bytes_out, head[10]);
+    } else {
+        answer = nuzzlefleece_binding_pairs(records, head[8], ask(), starts, head[9] / 2, bytes_out, head[10]);
+    }
+    print_with(answer, bytes_out, head[10]);
+}
+
+static void answer_reader(void) {
+    nuzzlefleece_read_answer read = nuzzlefleece_read_file(table, head[9], records, head[8]);
+    nuzzlefleece_ask q = read.ask;
+    printf("%u %u %lu %lu %u %lu %u ", (unsigned)read.answer.number, (unsigned)read.answer.place, (unsigned long)q.opening,
+        (unsigned long)q.goals, (unsigned)q.bound, (unsigned long)q.jobs, (unsigned)q.atoms);
+    for (size_t i = 0; i < head[8]; i++) {
+        print_hex(&records[i], SAVED);
+    }
+}
+
+static void answer_writer(void) {
+    nuzzlefleece_save save = {.ask = ask(), .used = head[6]};
+    nuzzlefleece_answer answer = nuzzlefleece_write_file(records, head[8], save, table, head[9]);
+    print_with(answer, table, head[9]);
+}
+
+static void answer_readings(void) {
+    static int16_t levels[MOST_OUT];
+    nuzzlefleece_reading reading;
+    nuzzlefleece_opening opening;
+    memcpy(levels, halves(table + head[9], head[10]), 2 * head[10]);
+    memcpy(&reading.temperature, &head[6], 8);
+    memcpy(&reading.humidity, &head[12], 8);
+    opening = nuzzlefleece_opening_facts(reading, table, head[9], levels, head[10], table + head[9] + 2 * head[10], head[11], head[7], head[3]);
+    printf("%u %u %lu", (unsigned)opening.number, (unsigned)opening.place, (unsigned long)opening.facts);
+}
+
+static void answer_call(void) {
+    switch (head[0]) {
+    case 1:
+        print_answer(nuzzlefleece_check_plan(records, head[8], ask(), halves(table, head[9] / 2), head[9] / 2));
+        break;
+    case 2: case 3: case 6: case 7:
+        answer_in_halves();
+        break;
+    case 4: case 5:
+        answer_in_bytes();
+        break;
+    case 8:
+        answer_reader();
+        break;
+    case 9:
+        answer_writer();
+        break;
+    case 10:
+        answer_readings();
+        break;
+    default:
+        printf("unknown");
+    }
+    printf("\n");
+}
+
+int main(void) {
+    while (next_call()) {
+        answer_call();
+    }
+    return 0;
+}

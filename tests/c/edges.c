@@ -1,0 +1,187 @@
+/*
+ * Calls every function of the C library on the scope's example P3, with nothing lent and with bad input, and holds each answer to the
+ * scope's numbers. Last line: 'N passed, M failed'; any failure gives status 1.
+ */
+#include <stdio.h>
+#include <string.h>
+
+#include "nuzzlefleece.h"
+
+#define FACT(n) ((uint64_t)1 << (n))
+
+static int passed, failed;
+
+static const nuzzlefleece_action p3[] = {
+    {FACT(0), FACT(1), FACT(0), 4}, {FACT(1), FACT(2), 0, 2}, {FACT(1), FACT(3), 0, 8}, {FACT(1), FACT(4), FACT(2), 3},
+};
+static const nuzzlefleece_ask p3_ask = {4, 5, FACT(0), FACT(2) | FACT(3) | FACT(4), 12, 0, 0};
+static const uint16_t p3_starts[] = {0, 7, 4, 4};
+static const uint8_t p3_pairs[] = {0, 1, 0, 2, 0, 3, 3, 1};
+static const char p3_page[] =
+    "least 12\n0 4 0\n4 12 2\n4 7 3\n7 9 1\n0 before 1\n0 before 2\n0 before 3\n3 before 1\n";
+
+static void expect(const char *what, int holds) {
+    if (holds) {
+        passed++;
+    } else {
+        failed++;
+        printf("edges: %s\n", what);
+    }
+}
+
+/* The answer has this number, place and value. */
+static void says(const char *what, nuzzlefleece_answer answer, unsigned number, unsigned place, unsigned value) {
+    int holds = answer.number == number && answer.place == place && answer.value == value;
+    expect(what, holds);
+    if (!holds) {
+        printf("edges: answered %u %u %u\n", (unsigned)answer.number, (unsigned)answer.place, (unsigned)answer.value);
+    }
+}
+
+/* P3 and P4, and what is lent behind the answer stays as it was. */
+static void answers_p3(void) {
+    uint16_t starts[6] = {1, 1, 1, 1, 1, 1}, moved[4] = {0, 6, 4, 4};
+    uint8_t pairs[NUZZLEFLEECE_PAIRS_BYTES], supports[321];
+    memset(pairs, 9, sizeof pairs);
+    memset(supports, 9, sizeof supports);
+    says("least bound", nuzzlefleece_least_bound(p3, 4, p3_ask, starts, 5), 0, 0, 12);
+    expect("starts of the least bound", memcmp(starts, p3_starts, 8) == 0 && starts[4] == 1 && starts[5] == 1);
+    memset(starts, 1, sizeof starts);
+    says("plan within", nuzzlefleece_plan_within(p3, 4, p3_ask, starts, 4), 0, 0, 0);
+    expect("starts within 12", memcmp(starts, p3_starts, 8) == 0 && starts[4] == 257);
+    says("check plan", nuzzlefleece_check_plan(p3, 4, p3_ask, starts, 4), 0, 0, 0);
+    says("drench at 6", nuzzlefleece_check_plan(p3, 4, p3_ask, moved, 4), NUZZLEFLEECE_OVERLAP, 1, 0);
+    says("binding pairs", nuzzlefleece_binding_pairs(p3, 4, p3_ask, starts, 4, pairs, sizeof pairs), 0, 0, 4);
+    expect("the pairs", memcmp(pairs, p3_pairs, 8) == 0 && pairs[8] == 9 && pairs[551] == 9);
+    says("supports", nuzzlefleece_supports(p3, 4, p3_ask, starts, 4, supports, 320), 0, 0, 0);
+    expect("Start supports unpack, unpack the rest", supports[0] == NUZZLEFLEECE_SUPPORTED_BY_START && supports[64 + 1] == 0);
+    expect("drench, warm and wash support End", supports[256 + 2] == 1 && supports[256 + 3] == 2 && supports[256 + 4] == 3);
+    expect("no condition, and the byte behind", supports[1] == NUZZLEFLEECE_NO_CONDITION && supports[320] == 9);
+}
+
+static void answers_estimates(void) {
+    uint16_t out[4] = {0};
+    nuzzlefleece_ask ask = p3_ask;
+    says("estimates", nuzzlefleece_earliest(p3, 4, ask, out, 4), 0, 0, 0);
+    expect("all but unpack from 4", out[0] == 0 && out[1] == 4 && out[2] == 4 && out[3] == 4);
+    ask.opening = 0;
+    says("estimates from nothing", nuzzlefleece_earliest(p3, 4, ask, out, 4), 0, 0, 0);
+    expect("never reachable", out[0] == NUZZLEFLEECE_OUT && out[3] == NUZZLEFLEECE_OUT);
+}
+
+static void answers_settling(void) {
+    uint16_t out[4] = {0};
+    uint8_t itself[] = {1, 1};
+    nuzzlefleece_ask ask = p3_ask;
+    ask.set = 11;
+    ask.pairs = 1;
+    says("settle", nuzzlefleece_settle(p3, 4, ask, p3_pairs, 8, out, 4), 0, 0, 0);
+    expect("unpack before drench, warm out", out[0] == 0 && out[1] == 4 && out[2] == NUZZLEFLEECE_OUT && out[3] == 0);
+    says("a job before itself", nuzzlefleece_settle(p3, 4, ask, itself, 2, out, 4), NUZZLEFLEECE_NO_STARTS, 0, 0);
+    ask.pairs = 2;
+    says("a pair outside the set", nuzzlefleece_settle(p3, 4, ask, p3_pairs, 8, out, 4), NUZZLEFLEECE_PAIRS_WRONG, 1, 0);
+    ask.set = 16;
+    says("no such job", nuzzlefleece_settle(p3, 4, ask, p3_pairs, 8, out, 4), NUZZLEFLEECE_PAIRS_WRONG, 601, 0);
+}
+
+/* A save is read back, and its page is bench-plan's text. */
+static void answers_files(void) {
+    static uint8_t file[200], text[NUZZLEFLEECE_PAGE_BYTES];
+    nuzzlefleece_action back[4] = {{0, 0, 0, 0}};
+    nuzzlefleece_save save = {p3_ask, 10};
+    nuzzlefleece_read_answer read;
+    says("write file", nuzzlefleece_write_file(p3, 4, save, file, sizeof file), 0, 0, 10 + 4 * 32 + 24);
+    read = nuzzlefleece_read_file(file, 162, back, 4);
+    says("read file", read.answer, 0, 0, 0);
+    expect("the numbers read", read.ask.jobs == 4 && read.ask.atoms == 5 && read.ask.opening == 1 && read.ask.goals == 28 && read.ask.bound == 12);
+    expect("the records read", back[0].deletions == 1 && back[3].deletions == 4 && back[3].duration == 3);
+    says("too few records", nuzzlefleece_read_file(file, 162, back, 3).answer, NUZZLEFLEECE_LENT_TOO_SHORT, 0, 0);
+    says("page", nuzzlefleece_page(file, 162, text, sizeof text), 0, 0, sizeof p3_page - 1);
+    expect("the page", memcmp(text, p3_page, sizeof p3_page - 1) == 0 && text[sizeof p3_page] == 0);
+    file[10 + 31] = 1;
+    says("a damaged file", nuzzlefleece_read_file(file, 162, back, 4).answer, NUZZLEFLEECE_FILE_DAMAGED, 0, 0);
+    says("its page", nuzzlefleece_page(file, 162, text, sizeof text), 0, 0, 12);
+    expect("the page of a damaged file", memcmp(text, "refused 2 0\n", 12) == 0);
+    says("too little for a page", nuzzlefleece_page(file, 162, text, 8191), NUZZLEFLEECE_LENT_TOO_SHORT, 0, 0);
+    save.used = 65536;
+    says("a full file", nuzzlefleece_write_file(p3, 4, save, file, sizeof file), NUZZLEFLEECE_FILE_TOO_LONG, 0, 0);
+}
+
+/* The facts from a reading are held to the number, the place and the facts. */
+static void opens(const char *what, nuzzlefleece_opening o, unsigned number, unsigned place, uint64_t facts) {
+    expect(what, o.number == number && o.place == place && o.facts == facts);
+}
+
+static void answers_readings(void) {
+    uint8_t channels[] = {0, 1}, facts[] = {3, 63};
+    int16_t levels[] = {240, -1};
+    nuzzlefleece_reading just = {24.000000000000004, -0.05}, under = {23.999999999999996, -0.15}, none = {0.0, 0.0};
+    opens("both reached", nuzzlefleece_opening_facts(just, channels, 2, levels, 2, facts, 2, 2, 5), 0, 0, 5 | FACT(3) | FACT(63));
+    opens("neither", nuzzlefleece_opening_facts(under, channels, 2, levels, 2, facts, 2, 2, 13), 0, 0, 5);
+    opens("no marks", nuzzlefleece_opening_facts(just, NULL, 0, NULL, 0, NULL, 0, 0, 5), 0, 0, 5);
+    opens("one level short", nuzzlefleece_opening_facts(just, channels, 2, levels, 1, facts, 2, 2, 5), NUZZLEFLEECE_LENT_TOO_SHORT, 0, 5);
+    none.humidity /= none.temperature;
+    opens("not a number", nuzzlefleece_opening_facts(none, channels, 2, levels, 2, facts, 2, 2, 5), NUZZLEFLEECE_READING_WRONG, 1, 5);
+    levels[1] = 1001;
+    opens("a level of 1001", nuzzlefleece_opening_facts(just, channels, 2, levels, 2, facts, 2, 2, 5), NUZZLEFLEECE_MARK_WRONG, 1, 5);
+}
+
+/* Nothing lent, null pointers: P7's empty plan, and 3 where something is to be filled. */
+static void takes_null(void) {
+    nuzzlefleece_ask ask = {.atoms = 2, .opening = 1};
+    nuzzlefleece_save save = {.ask = ask};
+    says("null: check plan", nuzzlefleece_check_plan(NULL, 0, ask, NULL, 0), 0, 0, 0);
+    says("null: plan within", nuzzlefleece_plan_within(NULL, 0, ask, NULL, 0), 0, 0, 0);
+    says("null: least bound", nuzzlefleece_least_bound(NULL, 0, ask, NULL, 0), 0, 0, 0);
+    says("null: supports", nuzzlefleece_supports(NULL, 0, ask, NULL, 0, NULL, 0), NUZZLEFLEECE_LENT_TOO_SHORT, 0, 0);
+    says("null: binding pairs", nuzzlefleece_binding_pairs(NULL, 0, ask, NULL, 0, NULL, 0), NUZZLEFLEECE_LENT_TOO_SHORT, 0, 0);
+    says("null: estimates", nuzzlefleece_earliest(NULL, 0, ask, NULL, 0), 0, 0, 0);
+    says("null: settle", nuzzlefleece_settle(NULL, 0, ask, NULL, 0, NULL, 0), 0, 0, 0);
+    says("null: read file", nuzzlefleece_read_file(NULL, 0, NULL, 0).answer, NUZZLEFLEECE_FILE_DAMAGED, 0, 0);
+    says("null: write file", nuzzlefleece_write_file(NULL, 0, save, NULL, 0), NUZZLEFLEECE_LENT_TOO_SHORT, 0, 0);
+    says("null: page", nuzzlefleece_page(NULL, 0, NULL, 0), NUZZLEFLEECE_LENT_TOO_SHORT, 0, 0);
+    ask.goals = 2;
+    says("null: a goal that nothing adds", nuzzlefleece_least_bound(NULL, 0, ask, NULL, 0), NUZZLEFLEECE_NO_PLAN, 0, 65535);
+}
+
+/* The refusals of a table, by the call that returns a value of its own on refusal. */
+static void refuses_tables(void) {
+    uint16_t out[30] = {0};
+    nuzzlefleece_action jobs[30], job = {1, 2, 0, 1};
+    nuzzlefleece_ask ask = {.jobs = (size_t)-1, .atoms = 64};
+    for (size_t i = 0; i < 30; i++) {
+        jobs[i] = job;
+    }
+    says("more jobs than there are records", nuzzlefleece_least_bound(jobs, 30, ask, out, 30), NUZZLEFLEECE_LENT_TOO_SHORT, 0, 65535);
+    ask.jobs = 25;
+    says("25 jobs", nuzzlefleece_least_bound(jobs, 30, ask, out, 30), NUZZLEFLEECE_TOO_MANY_JOBS, 0, 65535);
+    ask.jobs = 24;
+    ask.atoms = 65;
+    says("65 atoms", nuzzlefleece_least_bound(jobs, 30, ask, out, 30), NUZZLEFLEECE_ATOMS_WRONG, 0, 65535);
+    ask.atoms = 2;
+    ask.goals = 4;
+    says("a goal at the atom count", nuzzlefleece_least_bound(jobs, 30, ask, out, 30), NUZZLEFLEECE_FACT_WRONG, 24, 65535);
+    jobs[23].duration = 961;
+    says("961 quarter hours", nuzzlefleece_least_bound(jobs, 30, ask, out, 30), NUZZLEFLEECE_DURATION_WRONG, 23, 65535);
+    jobs[23] = job;
+    jobs[7].deletions = 2;
+    ask.goals = 2;
+    says("adds and deletes", nuzzlefleece_least_bound(jobs, 30, ask, out, 30), NUZZLEFLEECE_ADDS_AND_DELETES, 7, 65535);
+    jobs[7] = job;
+    ask.bound = 2881;
+    says("bound 2881", nuzzlefleece_least_bound(jobs, 30, ask, out, 30), NUZZLEFLEECE_BOUND_WRONG, 0, 65535);
+    ask.bound = 2880;
+    says("no opening facts", nuzzlefleece_least_bound(jobs, 30, ask, out, 30), NUZZLEFLEECE_NO_PLAN, 0, 65535);
+}
+
+int main(void) {
+    answers_p3();
+    answers_estimates();
+    answers_settling();
+    answers_files();
+    answers_readings();
+    takes_null();
+    refuses_tables();
+    printf("%d passed, %d failed\n", passed, failed);
+    return failed != 0;
+}
