@@ -15,7 +15,7 @@ use Rattle.cases.specs.Claims.{AllHold}
 use Rattle.cases.specs.Cases.{cases}
 use Rattle.cases.proofs.Refute.{some, every, addIf, collect, include, dueIf, exclude, ahead, behind, isJob, chain, broken, wants, guards, step, refute, hopeless}
 use Rattle.cases.proofs.Firsts.{sooner, dueBefore, noneBefore}
-use Rattle.cases.proofs.Shown.{tidyJob, tidy, plans-ok, none-ok, least-ok, judged-ok, touch-ok, tenths-ok, takes-ok, refuses-ok}
+use Rattle.cases.proofs.Shown.{tidy, plans-ok, none-ok, least-ok, judged-ok, touch-ok, tenths-ok, takes-ok, refuses-ok}
 
 -- one case, and all that follow
 infixr 20 _also_
@@ -23,7 +23,7 @@ _also_ : {A B : Type 0} → A → B → A × B
 a also b = (a, b)
 
 pub all-hold : AllHold cases
-unfolding _also_ cases facts has after least further any refuseIf refuseAt between strays jobStrays undoes jobChecks tableChecks boundCheck inPlan spoils interfere ends afterIf finishes holds late overlap clashes unready missing planChecks inRange tenths float some every addIf collect include dueIf exclude ahead behind isJob chain broken wants guards step refute hopeless sooner dueBefore noneBefore tidyJob tidy
+unfolding _also_ cases facts has after least further any refuseIf refuseAt between strays jobStrays undoes jobChecks tableChecks boundCheck inPlan spoils interfere ends afterIf finishes holds late overlap clashes unready missing planChecks inRange tenths float some every addIf collect include dueIf exclude ahead behind isJob chain broken wants guards step refute hopeless sooner dueBefore noneBefore tidy
 all-hold =
     -- P1
     plans-ok refl tt refl tt

@@ -3,7 +3,7 @@
 use mathlib.Core.Path.{_≡_, refl, sym, _∙_, ap, subst}
 use mathlib.Core.Logic.{inl, inr, _↔_}
 use mathlib.Core.Bool.{Bool, not, _&&_}
-use Prim.Native.Nat.{ℕ, _-_, _^_, _≤_, _<_}
+use Prim.Native.Nat.{ℕ, _-_, _≤_, _<_}
 use native.Mathlib.Omega.{arith}
 use lib.Dec.{T, eqb, ltb, eqb→eq, ltb→lt, T-not}
 use lib.Ieee.{Float}
@@ -11,9 +11,8 @@ use lib.IntN.{ℤ}
 use Rattle.facts.specs.Least.{any}
 use Rattle.facts.proofs.Bools.{and-l, and-r, certain}
 use Rattle.facts.proofs.Least.{any-of}
-use Rattle.facts.proofs.Sets.{has-lt}
 use Rattle.rules.specs.Refusals.{Verdict, accepted, refused}
-use Rattle.rules.specs.Table.{Problem, InOrder, Below, tableChecks, boundCheck}
+use Rattle.rules.specs.Table.{Problem, InOrder, tableChecks, boundCheck}
 use Rattle.rules.specs.Plans.{Plan, inPlan, In, finish, interfere, Valid}
 use Rattle.rules.specs.Verdicts.{planChecks}
 use Rattle.rules.specs.Order.{First, LeastBound, NoPlan, Planned, Bounded}
@@ -27,40 +26,19 @@ use Rattle.cases.specs.Claims.{checks, Taken, Refused, Plans, Refuses10,
 use Rattle.cases.proofs.Refute.{hopeless}
 use Rattle.cases.proofs.Firsts.{noneBefore, none, first, below-least}
 
--- ── tables in order ──
+-- ── tables without a release ──
 
--- the conditions and deletions of job i are below the atom count, and it has no release
-unfoldable pub tidyJob : Problem → ℕ → Bool
-tidyJob P i = ltb (P .conditions i) (2 ^ P .atoms) && (ltb (P .deletions i) (2 ^ P .atoms) && eqb (P .release i) 0)
-
--- so of all jobs, and of the goals
+-- no job has a release
 unfoldable pub tidy : Problem → Bool
-tidy P = ltb (P .goals) (2 ^ P .atoms) && not (any (λ i. not (tidyJob P i)) (P .count))
+tidy P = not (any (λ i. not (eqb (P .release i) 0)) (P .count))
 
--- what a tidy table gives the laws
-module _ (P : Problem) (t : T (tidy P)) where
-  tidy-goals : Below (P .atoms) (P .goals)
-  unfolding tidy
-  tidy-goals p = has-lt (P .atoms) (P .goals) p (ltb→lt (P .goals) (2 ^ P .atoms) (and-l (ltb (P .goals) (2 ^ P .atoms)) _ t))
-
-  tidy-at : (i : ℕ) → i < P .count → T (tidyJob P i)
-  unfolding tidy
-  tidy-at i l = certain (tidyJob P i)
-      (λ n. T-not (any (λ j. not (tidyJob P j)) (P .count)) (and-r (ltb (P .goals) (2 ^ P .atoms)) _ t) (any-of (λ j. not (tidyJob P j)) (P .count) i l n))
-
-  needed : (i : ℕ) → i < P .count → Below (P .atoms) (P .conditions i)
-  unfolding tidyJob
-  needed i l p = has-lt (P .atoms) (P .conditions i) p (ltb→lt (P .conditions i) (2 ^ P .atoms) (and-l (ltb (P .conditions i) (2 ^ P .atoms)) _ (tidy-at i l)))
-
-  rest : (i : ℕ) → i < P .count → T (ltb (P .deletions i) (2 ^ P .atoms) && eqb (P .release i) 0)
-  unfolding tidyJob
-  rest i l = and-r (ltb (P .conditions i) (2 ^ P .atoms)) _ (tidy-at i l)
-
-  deleted : (i : ℕ) → i < P .count → Below (P .atoms) (P .deletions i)
-  deleted i l p = has-lt (P .atoms) (P .deletions i) p (ltb→lt (P .deletions i) (2 ^ P .atoms) (and-l (ltb (P .deletions i) (2 ^ P .atoms)) _ (rest i l)))
-
-  released : (s : Plan) (i : ℕ) → In P s i → P .release i ≤ s i
-  released s i k = omega (arith, eqb→eq (P .release i) 0 (and-r (ltb (P .deletions i) (2 ^ P .atoms)) _ (rest i (k .below))))
+released : (P : Problem) → T (tidy P) → (s : Plan) (i : ℕ) → In P s i → P .release i ≤ s i
+unfolding tidy
+released P t s i k = omega (
+  arith,
+  eqb→eq (P .release i) 0 (certain (eqb (P .release i) 0)
+      (λ n. T-not (any (λ j. not (eqb (P .release j) 0)) (P .count)) t (any-of (λ j. not (eqb (P .release j) 0)) (P .count) i (k .below) n))),
+)
 
 -- ── checks 4 to 9 ──
 
@@ -85,7 +63,7 @@ table-goes-on P bound t = go (table-checks P)
 module _ (P : Problem) (bound : ℕ) (taken : checks P bound accepted ≡ accepted) (t : T (tidy P)) where
   -- so the table is in order, and the verdict on a plan says whether it is valid
   ordered : InOrder P
-  ordered = in-order P (table-goes-on P bound taken accepted) (needed P t) (deleted P t) (tidy-goals P t)
+  ordered = in-order P (table-goes-on P bound taken accepted)
 
   accepts : (s : Plan) → (planChecks P bound s accepted ≡ accepted) ↔ Valid P bound s
   accepts s = judged P ordered bound s (released P t s)

@@ -1,34 +1,33 @@
 -- Demand 3 of the answers: from the promises alone, over the pairs in the written bytes.
 -- Assumes nothing.
-use mathlib.Core.Path.{_≡_, refl, sym, ap, ap₂, _∙_, subst}
-use mathlib.Core.Bool.{Bool, false, _||_}
+use mathlib.Core.Path.{_≡_, refl, sym, ap, _∙_, subst}
+use mathlib.Core.Bool.{Bool, _||_}
 use mathlib.Core.List.{List, [], _∷_}
 use Prim.Native.Nat.{ℕ, _/_, _≤_, _<_}
 use native.Mathlib.Omega.{arith}
-use native.Mathlib.Decide.{decLt}
 use borrow.Author.Tests.{le-ltb, eq-eqb}
-use lib.Dec.{T, ltb, lt→ltb}
+use lib.Dec.{T, ltb}
 use lib.ListN.{length, getD}
 use Rattle.facts.proofs.Bools.{or-l, or-r}
 use Rattle.rules.specs.Refusals.{Verdict, accepted}
 use Rattle.rules.specs.Table.{Problem, InOrder, tableChecks, boundCheck}
-use Rattle.rules.specs.Plans.{Plan, starts, In, Valid}
+use Rattle.rules.specs.Plans.{Plan, starts, Valid}
 use Rattle.rules.specs.Verdicts.{planChecks}
 use Rattle.rules.specs.Pairs.{binds, pairBytes}
-use Rattle.rules.specs.Execution.{Event, began, finished, Log, Allowed}
-use Rattle.rules.proofs.Refused.{went-on, if-zero, if-pass, then-checks, table-checks, bound-checks}
-use Rattle.rules.proofs.Checked.{passed}
+use Rattle.rules.specs.Execution.{began, finished, Log, Allowed}
+use Rattle.rules.proofs.Refused.{went-on, if-zero, table-checks}
+use Rattle.rules.proofs.Checked.{passed, in-order}
 use Rattle.rules.proofs.Orders.{wider}
 use Rattle.rules.proofs.Performed.{demand3}
 use Rattle.tables.specs.declared.Loaded.{Loaded}
 use Rattle.tables.specs.declared.Ask.{Ask}
 use Rattle.tables.specs.declared.Answer.{Answer}
-use Rattle.tables.specs.Tables.{problem, answer, filled}
+use Rattle.tables.specs.Tables.{problem, filled}
 use Rattle.tables.proofs.Lent.{filled-at, length-filled}
 use Rattle.entries.proofs.Laws.{changed-new}
-use Rattle.entries.proofs.Calls.{numbered, long-enough}
+use Rattle.entries.proofs.Calls.{numbered}
 use Rattle.verdict.specs.Offered.{offered}
-use Rattle.verdict.proofs.Accepted.{Words, ordered, goes-on, offered-checks, exactly, at-most}
+use Rattle.verdict.proofs.Accepted.{goes-on, offered-checks, exactly, at-most}
 use Rattle.bindings.specs.Bindings.{Pairs, pairVerdict, written}
 use Rattle.bindings.proofs.Count.{pairs-room}
 use Rattle.planning.specs.Planning.{planningChecks, PlansWithin, BoundsWithin}
@@ -44,7 +43,7 @@ allowed P s bytes n k (began j ∷ h) (m, x) =
     (record { there = m .there; once = m .once; free = λ a i t. m .free a (k a j (i .below) (m .there .below) t) }, allowed P s bytes n k h x)
 allowed P s bytes n k (finished j ∷ h) (m, x) = (m, allowed P s bytes n k h x)
 
-module _ (l : Loaded) (q : Ask) (words : Words l q) (s old new : List ℕ) (r : Answer) (p : Pairs l q s old new r) where
+module _ (l : Loaded) (q : Ask) (s old new : List ℕ) (r : Answer) (p : Pairs l q s old new r) where
   abbrev short : Bool
   short = ltb (length old) 552 || ltb (length s) (q .jobs)
 
@@ -68,13 +67,13 @@ module _ (l : Loaded) (q : Ask) (words : Words l q) (s old new : List ℕ) (r : 
       enough = at-most (q .jobs) (length s) (λ x. room .0 (or-l short _ (or-r (ltb (length old) 552) _ x)))
 
       ok : InOrder (problem l q)
-      ok = ordered l q words (goes-on (tableChecks (problem l q)) (table-checks (problem l q)) _ (room .1) accepted)
+      ok = in-order (problem l q) (goes-on (tableChecks (problem l q)) (table-checks (problem l q)) _ (room .1) accepted)
 
       plain : offered (ltb (length s) (q .jobs)) l q s accepted ≡ accepted
       plain = ap (λ (b : Bool). offered (b || ltb (length s) (q .jobs)) l q s accepted) (sym (le-ltb (length old) 552 wide)) ∙ whole
 
       valid : Valid (problem l q) (q .bound) (starts s)
-      valid = exactly l q s _ words refl .0 (ap (λ (x : Verdict). x .number) plain) .3
+      valid = exactly l q s _ refl .0 (ap (λ (x : Verdict). x .number) plain) .3
 
       few : q .jobs ≤ 24
       few = passed (problem l q) (goes-on (tableChecks (problem l q)) (table-checks (problem l q)) _ (room .1) accepted) .count
@@ -93,7 +92,7 @@ module _ (l : Loaded) (q : Ask) (words : Words l q) (s old new : List ℕ) (r : 
 
 -- ── a plan that was found ──
 
-module _ (l : Loaded) (q : Ask) (words : Words l q) (xs ys : List ℕ) where
+module _ (l : Loaded) (q : Ask) (xs ys : List ℕ) where
   -- what is said of a plan in lent memory by a call for its binding pairs
   abbrev pub Kept : Type 0
   Kept = (old new : List ℕ) (r : Answer) → 552 ≤ length old → Pairs l q ys old new r → (r .number ≡ 0) × Foreman (problem l q) (q .bound) (starts ys) new (r .value)
@@ -107,7 +106,7 @@ module _ (l : Loaded) (q : Ask) (words : Words l q) (xs ys : List ℕ) where
 
     -- the plan is accepted as it stands
     accepts : offered (ltb (length ys) (q .jobs)) l q ys accepted .number ≡ 0
-    accepts = exactly l q ys _ words refl .1 (
+    accepts = exactly l q ys _ refl .1 (
       omega (arith, room, ap length t, length-filled s (q .jobs) xs),
       at-most (q .jobs) (l .lent) (λ x. clear .0 (or-r (ltb (length xs) (q .jobs)) _ x)),
       clear .1,
@@ -115,7 +114,7 @@ module _ (l : Loaded) (q : Ask) (words : Words l q) (xs ys : List ℕ) where
     )
 
     kept : Kept
-    kept old new r w p = (zero, offered-kept l q words ys old new r p zero)
+    kept old new r w p = (zero, offered-kept l q ys old new r p zero)
       where
         zero : r .number ≡ 0
         zero = numbered _ 0 (p .says) ∙ ap (λ (b : Bool). offered (b || ltb (length ys) (q .jobs)) l q ys accepted .number) (le-ltb (length old) 552 w) ∙ accepts

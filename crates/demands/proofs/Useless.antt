@@ -4,11 +4,10 @@
 use mathlib.Core.Path.{_≡_, refl, sym, ap, _∙_}
 use mathlib.Core.Bool.{Bool, false}
 use mathlib.Core.List.{List, [], _∷_}
-use Prim.Native.Nat.{ℕ, zero, suc, _^_, _≤_, _<_}
+use Prim.Native.Nat.{ℕ, _≤_, _<_}
 use native.Mathlib.Omega.{arith}
 use borrow.Author.Tests.{le-ltb}
-use lib.Dec.{ltb}
-use lib.ListN.{length, getD, replicate}
+use lib.ListN.{length, getD}
 use Rattle.facts.specs.Facts.{has, after}
 use Rattle.facts.specs.Least.{least, further, any}
 use Rattle.rules.specs.Refusals.{Verdict, accepted, refused, refuseIf, refuseAt}
@@ -19,27 +18,11 @@ use Rattle.rules.proofs.Judged.{judged}
 use Rattle.tables.specs.declared.Answer.{Answer}
 use Rattle.tables.specs.Tables.{problem, callChecks}
 use Rattle.tables.proofs.Lent.{filled-at}
-use Rattle.verdict.proofs.Accepted.{Words, ordered}
+use Rattle.rules.proofs.Checked.{in-order}
 use Rattle.bindings.proofs.Useless.{jobsU, askU, plan3}
-use Rattle.planning.specs.Planning.{planningChecks, PlansWithin, BoundsWithin}
-use Rattle.planning.proofs.Laws.{row-of}
+use Rattle.planning.specs.Planning.{PlansWithin, BoundsWithin}
 use Rattle.planning.proofs.Found.{plan-found, plan-none, bound-found}
 use Rattle.demands.proofs.SamePlan.{valid-same}
-
-four-small : (a b c d : ℕ) → a < 32 → b < 32 → c < 32 → d < 32 → (i : ℕ) → getD (a ∷ b ∷ c ∷ d ∷ replicate 20 0) i 0 < 2 ^ 64
-four-small a b c d h k l m zero = omega arith
-four-small a b c d h k l m (suc zero) = omega arith
-four-small a b c d h k l m (suc (suc zero)) = omega arith
-four-small a b c d h k l m (suc (suc (suc zero))) = omega arith
-four-small a b c d h k l m (suc (suc (suc (suc i)))) = omega (arith, row-of 20 i 0 (λ n. refl))
-
--- the jobs U are in order
-words : (goals bound : ℕ) → goals < 32 → Words jobsU (askU goals bound)
-words goals bound h = record {
-  conditions = four-small 1 2 2 2 (omega arith) (omega arith) (omega arith) (omega arith);
-  deletions = four-small 1 0 0 4 (omega arith) (omega arith) (omega arith) (omega arith);
-  goals = omega arith;
-}
 
 -- goals {2, 3} within 12, and {2, 3, 4} within 14
 abbrev P1 : Problem
@@ -57,10 +40,10 @@ unfolding tableChecks jobChecks between strays jobStrays undoes refuseAt refuseI
 table3 = refl
 
 order1 : InOrder P1
-order1 = ordered jobsU (askU 12 12) (words 12 12 (omega arith)) table1
+order1 = in-order P1 table1
 
 order3 : InOrder P3
-order3 = ordered jobsU (askU 28 14) (words 28 14 (omega arith)) table3
+order3 = in-order P3 table3
 
 -- ── plans that are valid, and plans that are not ──
 

@@ -12,7 +12,7 @@ use Rattle.tables.specs.declared.Answer.{Answer}
 use Rattle.tables.specs.Tables.{answer}
 use Rattle.tables.proofs.Lent.{filled-at}
 use Rattle.jobfile.specs.declared.Read.{Read}
-use Rattle.jobfile.specs.Calls.{whole as readWhole, reading, Writes, Words, saved, firsts, kept}
+use Rattle.jobfile.specs.Calls.{whole as readWhole, reading, Writes, saved, firsts, kept}
 use Rattle.jobfile.proofs.Back.{written-back}
 use Rattle.records.specs.declared.Action.{Action}
 use Rattle.records.specs.Records.{recordAt, loaded, recordOf, placed}
@@ -43,9 +43,9 @@ pub record Restored (ts : List Action) (q : Ask) (old new : List Action) (a : Re
   pub jobs : (i : ℕ) → i < q .jobs → recordAt new i ≡ recordAt ts i
   pub rest : (i : ℕ) → q .jobs ≤ i → recordAt new i ≡ recordAt old i
 
-pub restored : (ts : List Action) (q : Ask) (used : ℕ) (buf buf′ : List ℕ) (r : Answer) → Writes (loaded ts) q used buf buf′ r → r .number ≡ 0 → Words (loaded ts) q
+pub restored : (ts : List Action) (q : Ask) (used : ℕ) (buf buf′ : List ℕ) (r : Answer) → Writes (loaded ts) q used buf buf′ r → r .number ≡ 0
     → (old new : List Action) (a : ReadAnswer) → q .jobs ≤ length old → Reads (take (r .value) buf′) old new a → Restored ts q old new a
-restored ts q used buf buf′ r w z words old new a lent x = record {
+restored ts q used buf buf′ r w z old new a lent x = record {
   said = ap (λ (b : ReadAnswer). b .answer) says;
   numbers = ap (λ (b : ReadAnswer). b .ask) says;
   jobs = λ i h. ap (λ (us : List Action). recordAt us i) records ∙ (placed-at table (q .jobs) old i h lent ∙ (kept-at (loaded ts) (q .jobs) (length old) i h (omega (arith, few)) ∙ loaded-at ts i (omega (arith, few))));
@@ -59,7 +59,7 @@ restored ts q used buf buf′ r w z words old new a lent x = record {
     table = kept (loaded ts) (q .jobs) (length old)
 
     back : reading file (length old) ≡ readWhole (answer accepted 0 0) (saved q) table
-    back = written-back (loaded ts) q used (length old) buf buf′ r w z words lent
+    back = written-back (loaded ts) q used (length old) buf buf′ r w z lent
 
     few : q .jobs ≤ 24
     few = let h : reading file (length old) .ask .jobs ≡ q .jobs = ap (λ (y : Read). y .ask .jobs) back in omega (arith, h, reading-fits file (length old) .0)

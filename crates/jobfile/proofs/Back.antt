@@ -15,7 +15,7 @@ use Rattle.facts.proofs.Least.{any-at}
 use Rattle.rules.specs.Refusals.{Verdict, accepted}
 use Rattle.rules.specs.Table.{tableChecks, boundCheck}
 use Rattle.rules.proofs.Refused.{if-zero, if-pass, table-checks}
-use Rattle.rules.proofs.Checked.{Passed, passed}
+use Rattle.rules.proofs.Checked.{Passed, passed, passed-conditions, passed-additions, passed-deletions, passed-opening, passed-goals}
 use Rattle.tables.specs.declared.Loaded.{Loaded}
 use Rattle.tables.specs.declared.Ask.{Ask}
 use Rattle.tables.specs.declared.Answer.{Answer}
@@ -26,7 +26,7 @@ use Rattle.bytes_le.proofs.Stands.{Stands, stands-left, stands-right, stands-dr
 use Rattle.bytes_le.proofs.Laid.{length-laid}
 use Rattle.bytes_le.proofs.Fields.{Found, fields-found}
 use Rattle.jobfile.specs.Format.{recordFields, recordOf, recordsOf, trailerFields, trailerOf, saveOf, lengthAfter, trailerAt, trailerIn, askIn, distanceIn, tooFar, recordsIn, spoilt, field, firstOf, tableIn}
-use Rattle.jobfile.specs.Calls.{problemChecks, saveChecks, readChecks, whole, taken, reading, writeChecks, Writes, Words, saved, firsts, kept}
+use Rattle.jobfile.specs.Calls.{problemChecks, saveChecks, readChecks, whole, taken, reading, writeChecks, Writes, saved, firsts, kept}
 use Rattle.jobfile.proofs.Checks.{at-most, both, any-test, write-accepts}
 use Rattle.jobfile.proofs.Saves.{length-records, length-save}
 use Rattle.jobfile.proofs.Same.{checks-same}
@@ -52,12 +52,12 @@ accepted-write l q used size h =
 
 -- ── a trailer and records that stand in a file ──
 
-module _ (l : Loaded) (q : Ask) (w : Words l q) (p : Passed (problem l q)) (bound : q .bound ≤ 2880) where
+module _ (l : Loaded) (q : Ask) (p : Passed (problem l q)) (bound : q .bound ≤ 2880) where
   trailer-read : (t : List ℕ) → Stands (trailerOf q) 0 t → (askIn t ≡ saved q) × (distanceIn t ≡ 32 * q .jobs)
   trailer-read t s =
       let a = p .atoms in
       let n = p .count in
-      let f = fields-found (trailerFields q) 0 0 t (w .opening, (w .goals, (omega arith, (omega arith, (omega arith, (omega arith, tt)))))) s in
+      let f = fields-found (trailerFields q) 0 0 t (passed-opening (problem l q) p, (passed-goals (problem l q) p, (omega arith, (omega arith, (omega arith, (omega arith, tt)))))) s in
       (cc (f .0, f .1 .0, f .1 .1 .0, f .1 .1 .1 .0, f .1 .1 .1 .1 .0), f .1 .1 .1 .1 .1 .0)
 
   module _ (rs : List ℕ) (s : Stands (recordsOf l (q .jobs)) 0 rs) where
@@ -77,7 +77,7 @@ module _ (l : Loaded) (q : Ask) (w : Words l q) (p : Passed (problem l q)) (boun
         → Found (recordFields (getD (l .conditions) i 0) (getD (l .additions) i 0) (getD (l .deletions) i 0) (getD (l .durations) i 0)) (32 * i) 0 rs
     found i m =
         let d = p .durations i m .1 in
-        fields-found _ (32 * i) 0 rs (w .conditions i, (w .additions i, (w .deletions i, (omega arith, (omega arith, tt))))) (each (q .jobs) s i m)
+        fields-found _ (32 * i) 0 rs (passed-conditions (problem l q) p i m, (passed-additions (problem l q) p i m, (passed-deletions (problem l q) p i m, (omega arith, (omega arith, tt))))) (each (q .jobs) s i m)
 
     clean : T (any (spoilt rs) (q .jobs)) → ⊥
     unfolding spoilt
@@ -114,7 +114,7 @@ module _ (l : Loaded) (q : Ask) (w : Words l q) (p : Passed (problem l q)) (boun
 -- ── there and back ──
 
 -- a file that ends in a save, from place `base` on
-module _ (l : Loaded) (q : Ask) (w : Words l q) (base size : ℕ) (a : Accepted l q base size) (file : List ℕ) (long : length file ≡ lengthAfter base (q .jobs))
+module _ (l : Loaded) (q : Ask) (base size : ℕ) (a : Accepted l q base size) (file : List ℕ) (long : length file ≡ lengthAfter base (q .jobs))
     (s : Stands (saveOf l q) base file) where
   p : Passed (problem l q)
   p = passed (problem l q) (a .table)
@@ -129,7 +129,7 @@ module _ (l : Loaded) (q : Ask) (w : Words l q) (base size : ℕ) (a : Accepted 
   trailer-is : (askIn (trailerIn file) ≡ saved q) × (distanceIn (trailerIn file) ≡ 32 * q .jobs)
   unfolding saveOf
   trailer-is =
-      trailer-read l q w p bounded (trailerIn file)
+      trailer-read l q p bounded (trailerIn file)
       (stands-drop (trailerOf q) (trailerAt file) 0 file
       (subst (λ (n : ℕ). Stands (trailerOf q) n file) at (stands-right (recordsOf l (q .jobs)) (trailerOf q) base file s)))
     where
@@ -158,10 +158,10 @@ module _ (l : Loaded) (q : Ask) (w : Words l q) (base size : ℕ) (a : Accepted 
 
   module _ (room : ℕ) (lent : q .jobs ≤ room) where
     table-same : tableIn (recordsIn file) (askIn (trailerIn file) .jobs) room ≡ kept l (q .jobs) room
-    table-same = ap (λ (x : Ask). tableIn (recordsIn file) (x .jobs) room) (trailer-is .0) ∙ table-is l q w p bounded (recordsIn file) records-are room
+    table-same = ap (λ (x : Ask). tableIn (recordsIn file) (x .jobs) room) (trailer-is .0) ∙ table-is l q p bounded (recordsIn file) records-are room
 
     judged : problemChecks false (tableIn (recordsIn file) (askIn (trailerIn file) .jobs) room) (askIn (trailerIn file)) ≡ accepted
-    judged = ap₂ (problemChecks false) table-same (trailer-is .0) ∙ kept-accepted l q w p bounded room lent (a .table) (a .bound)
+    judged = ap₂ (problemChecks false) table-same (trailer-is .0) ∙ kept-accepted l q p bounded room lent (a .table) (a .bound)
 
     reads : readChecks file room ≡ accepted
     unfolding readChecks saveChecks
@@ -169,17 +169,17 @@ module _ (l : Loaded) (q : Ask) (w : Words l q) (base size : ℕ) (a : Accepted 
         if-pass _ 1 0 _ (λ h. omega (arith, ltb→lt 65536 (length file) h, long, a .short))
         ∙ if-pass _ 2 0 _ (λ h. omega (arith, ltb→lt (length file) 24 h, long))
         ∙ if-pass _ 2 0 _ near
-        ∙ if-pass _ 2 0 _ (λ h. clean l q w p bounded (recordsIn file) records-are (subst (λ (x : Ask). T (any (spoilt (recordsIn file)) (x .jobs))) (trailer-is .0) h))
+        ∙ if-pass _ 2 0 _ (λ h. clean l q p bounded (recordsIn file) records-are (subst (λ (x : Ask). T (any (spoilt (recordsIn file)) (x .jobs))) (trailer-is .0) h))
         ∙ judged
 
     reading-is : reading file room ≡ whole (answer accepted 0 0) (saved q) (kept l (q .jobs) room)
     reading-is = ap (λ (v : Verdict). taken v file room) reads ∙ ap₂ (whole (answer accepted 0 0)) (trailer-is .0) table-same
 
 -- the first bytes, up to the new length, of what was written
-pub read-back : (l : Loaded) (q : Ask) (used room : ℕ) (buf : List ℕ) → writeChecks l q used (length buf) ≡ accepted → Words l q → q .jobs ≤ room
+pub read-back : (l : Loaded) (q : Ask) (used room : ℕ) (buf : List ℕ) → writeChecks l q used (length buf) ≡ accepted → q .jobs ≤ room
     → reading (take (lengthAfter used (q .jobs)) (laid (saveOf l q) used buf)) room ≡ whole (answer accepted 0 0) (saved q) (kept l (q .jobs) room)
-read-back l q used room buf h w lent =
-    reading-is l q w used (length buf) a (take n (laid (saveOf l q) used buf)) (length-take-le n _ (omega (arith, length-laid (saveOf l q) used buf (omega (arith, long, a .room)), a .room)))
+read-back l q used room buf h lent =
+    reading-is l q used (length buf) a (take n (laid (saveOf l q) used buf)) (length-take-le n _ (omega (arith, length-laid (saveOf l q) used buf (omega (arith, long, a .room)), a .room)))
     (stands-take (saveOf l q) n used _ (omega (arith, long)) (stands-laid (saveOf l q) used buf (omega (arith, a .room)))) room lent
   where
     n : ℕ
@@ -192,13 +192,13 @@ read-back l q used room buf h w lent =
     long = length-save l q
 
 -- by what the writer promises: where it accepts, the value returned is the length to read
-pub written-back : (l : Loaded) (q : Ask) (used room : ℕ) (old new : List ℕ) (r : Answer) → Writes l q used old new r → r .number ≡ 0 → Words l q → q .jobs ≤ room
+pub written-back : (l : Loaded) (q : Ask) (used room : ℕ) (old new : List ℕ) (r : Answer) → Writes l q used old new r → r .number ≡ 0 → q .jobs ≤ room
     → reading (take (r .value) new) room ≡ whole (answer accepted 0 0) (saved q) (kept l (q .jobs) room)
-written-back l q used room old new r h z w lent =
+written-back l q used room old new r h z lent =
     ap₂ (λ (n : ℕ) (xs : List ℕ). reading (take n xs) room)
     (ap (λ (x : Answer). x .value) (h .says) ∙ ap (λ (v : Verdict). answer v (lengthAfter used (q .jobs)) 0 .value) yes)
     (h .bytes ∙ ap (λ (v : Verdict). changed v (laid (saveOf l q) used old) old) yes)
-    ∙ read-back l q used room old yes w lent
+    ∙ read-back l q used room old yes lent
   where
     yes : writeChecks l q used (length old) ≡ accepted
     yes = write-accepts l q used (length old) (ap (λ (x : Answer). x .number) (sym (h .says)) ∙ z)

@@ -3,7 +3,7 @@
 use mathlib.Core.Path.{_≡_}
 use mathlib.Core.Bool.{Bool, false, cond}
 use mathlib.Core.List.{List}
-use Prim.Native.Nat.{ℕ, _^_, _<_}
+use Prim.Native.Nat.{ℕ}
 use lib.Dec.{eqb, ltb}
 use lib.ListN.{length, getD, replicate}
 use Rattle.facts.specs.Least.{any}
@@ -83,14 +83,6 @@ pub record Writes (l : Loaded) (q : Ask) (used : ℕ) (old new : List ℕ) (r : 
   pub bytes : new ≡ changed (writeChecks l q used (length old)) (laid (saveOf l q) used old) old
 
 -- ── what was saved ──
-
--- the words are words of 64 bits, as all that code holds
-pub record Words (l : Loaded) (q : Ask) : Type 0 where
-  pub conditions : (i : ℕ) → getD (l .conditions) i 0 < 2 ^ 64
-  pub additions : (i : ℕ) → getD (l .additions) i 0 < 2 ^ 64
-  pub deletions : (i : ℕ) → getD (l .deletions) i 0 < 2 ^ 64
-  pub opening : q .opening < 2 ^ 64
-  pub goals : q .goals < 2 ^ 64
 
 -- the numbers saved: a file holds neither a set nor pairs
 abbrev pub saved : Ask → Ask

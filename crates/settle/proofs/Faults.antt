@@ -5,13 +5,12 @@ use mathlib.Core.Bool.{Bool, not, _&&_, _||_}
 use mathlib.Core.List.{List}
 use Prim.Native.Nat.{ℕ, _/_, _≤_, _<_}
 use native.Mathlib.Omega.{arith}
-use lib.Dec.{T, leb, ltb, ltb→lt, nltb→le, lt→ltb, not-T}
+use lib.Dec.{T, ltb, ltb→lt, nltb→le, lt→ltb, not-T}
 use lib.ListN.{length}
 use Rattle.facts.specs.Facts.{has}
-use Rattle.facts.specs.Least.{any}
 use Rattle.facts.proofs.Bools.{or-l, or-r}
 use Rattle.rules.specs.Refusals.{Verdict, accepted, refused}
-use Rattle.rules.specs.Table.{Problem, InOrder, boundCheck}
+use Rattle.rules.specs.Table.{Problem, InOrder, boundCheck, strays}
 use Rattle.rules.specs.Settling.{settleChecks}
 use Rattle.rules.proofs.Refused.{Checks, if-checks, at-checks, then-checks, bound-checks, if-hit, if-pass, stopped, went-on}
 use Rattle.tables.specs.declared.Loaded.{Loaded}
@@ -26,7 +25,7 @@ use Rattle.settle.specs.Settle.{checks, Sound}
 settle-checks : (P : Problem) (set : ℕ) (first second : ℕ → ℕ) (pairs : ℕ) → Checks (settleChecks P set first second pairs)
 unfolding settleChecks
 settle-checks P set first second pairs =
-    then-checks (if-checks (any (λ j. leb (P .count) j && has set j) 64) 15 601 (omega arith))
+    then-checks (if-checks (strays (P .count) set) 15 601 (omega arith))
     (then-checks (if-checks (ltb 600 pairs) 15 600 (omega arith)) (at-checks (λ k. not (has set (first k) && has set (second k))) pairs 15 (omega arith)))
 
 module _ (l : Loaded) (q : Ask) (bytes : List ℕ) (room : ℕ) where

@@ -1,14 +1,13 @@
 -- The table by value, the numbers asked with, and the answer; the checks 3 to 9 of a call.
 -- Assumes nothing.
 use mathlib.Core.Path.{_≡_}
-use mathlib.Core.Bool.{Bool, true, false, _||_, cond}
+use mathlib.Core.Bool.{Bool, false, _||_, cond}
 use mathlib.Core.List.{List}
-use Prim.Native.Nat.{ℕ, zero, suc, _≤_, _<_}
+use Prim.Native.Nat.{ℕ, zero, suc}
 use lib.Dec.{eqb, ltb}
 use lib.ListN.{set}
-use Rattle.facts.specs.Least.{least}
-use Rattle.rules.specs.Refusals.{Verdict, accepted, refuseIf}
-use Rattle.rules.specs.Table.{Problem, listed, tableChecks, Below}
+use Rattle.rules.specs.Refusals.{Verdict, refuseIf}
+use Rattle.rules.specs.Table.{Problem, listed, tableChecks}
 use Rattle.tables.specs.declared.Loaded.{Loaded}
 use Rattle.tables.specs.declared.Ask.{Ask}
 use Rattle.tables.specs.declared.Answer.{Answer}
@@ -30,26 +29,10 @@ filled f (suc k) xs = set (filled f k xs) k (f k)
 abbrev pub changed : Verdict → (new old : List ℕ) → List ℕ
 changed v new old = cond (eqb (v .number) 0) new old
 
--- all facts of job i are below the atom count
-pub record JobBelow (P : Problem) (i : ℕ) : Type 0 where
-  pub conditions : Below (P .atoms) (P .conditions i)
-  pub additions : Below (P .atoms) (P .additions i)
-  pub deletions : Below (P .atoms) (P .deletions i)
-
--- the facts of all jobs and of the goals are below the atom count
-pub record Narrow (P : Problem) : Type 0 where
-  pub jobs : (i : ℕ) → i < P .count → JobBelow P i
-  pub goals : Below (P .atoms) (P .goals)
-
 -- the test r is t, and where it fails A is so
 pub record Tests (t : Bool) (A : Type 0) (r : Bool) : Type 0 where
   pub says : r ≡ t
   pub fails : r ≡ false → A
-
--- the place r is the lowest below n that passes f, and where there is none A is so
-pub record Finds (f : ℕ → Bool) (n : ℕ) (A : Type 0) (r : ℕ) : Type 0 where
-  pub says : r ≡ least f n
-  pub none : n ≤ r → A
 
 -- the answer says the verdict, and where it accepts A is so
 pub record Judges (v : Verdict) (A : Type 0) (r : Answer) : Type 0 where

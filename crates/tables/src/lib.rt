@@ -1,12 +1,12 @@
 // The table of jobs by value, and its checks.
 ghost use mathlib.Core.Path.{_≡_};
 ghost use mathlib.Core.Bool.{not, _||_};
-ghost use Prim.Native.Nat.{ℕ, _≤_, _<_};
+ghost use Prim.Native.Nat.{_≤_, _<_};
 ghost use lib.Dec.{ltb};
 ghost use Rattle.facts.specs.Least.{least};
 ghost use Rattle.rules.specs.Refusals.{accepted, refused};
-ghost use Rattle.rules.specs.Table.{between, strays, jobStrays, undoes, jobChecks, Below, InOrder};
-ghost use Rattle.tables.specs.Tables.{problem, answer, callChecks, JobBelow, Narrow, Tests, Finds, Judges};
+ghost use Rattle.rules.specs.Table.{between, strays, jobStrays, undoes, jobChecks, InOrder};
+ghost use Rattle.tables.specs.Tables.{problem, answer, callChecks, Judges};
 
 // The first 24 records that were lent, field by field, and how many were lent.
 pub struct Loaded {
@@ -51,7 +51,7 @@ pub fn done(value: u32) -> Answer
 // The word has a fact at or above the atom count.
 pub fn word_strays(w: u64, atoms: usize) -> bool
     requires { ⌜ atoms ≤ 64 ⌝ }
-    ensures { λ r. ⌜ Tests (strays atoms w) (Below atoms w) r ⌝ }
+    ensures { λ r. ⌜ r ≡ strays atoms w ⌝ }
 {
     if atoms == 64 {
         return false;
@@ -86,7 +86,7 @@ fn first_duration(l: Loaded, q: Ask) -> usize
 // Job i has a fact at or above the atom count.
 fn job_strays(l: Loaded, q: Ask, i: usize) -> bool
     requires { ⌜ (i < 24) × (q .atoms ≤ 64) ⌝ }
-    ensures { λ r. ⌜ Tests (jobStrays (problem l q) i) (JobBelow (problem l q) i) r ⌝ }
+    ensures { λ r. ⌜ r ≡ jobStrays (problem l q) i ⌝ }
 {
     let atoms = q.atoms as usize;
     word_strays(l.conditions[i], atoms)
@@ -96,7 +96,7 @@ fn job_strays(l: Loaded, q: Ask, i: usize) -> bool
 // The lowest job that has one, or n.
 fn first_stray(l: Loaded, q: Ask) -> usize
     requires { ⌜ (q .jobs ≤ 24) × (q .atoms ≤ 64) ⌝ }
-    ensures { λ r. ⌜ Finds (jobStrays (problem l q)) (q .jobs) ((i : ℕ) → i < q .jobs → JobBelow (problem l q) i) r ⌝ }
+    ensures { λ r. ⌜ r ≡ least (jobStrays (problem l q)) (q .jobs) ⌝ }
 {
     let n = q.jobs;
     for i in 0..n {
@@ -110,7 +110,7 @@ fn first_stray(l: Loaded, q: Ask) -> usize
 // The opening facts or the goals have a fact at or above the atom count.
 fn edges_stray(q: Ask) -> bool
     requires { ⌜ q .atoms ≤ 64 ⌝ }
-    ensures { λ r. ⌜ Tests (strays (q .atoms) (q .opening) || strays (q .atoms) (q .goals)) (Below (q .atoms) (q .goals)) r ⌝ }
+    ensures { λ r. ⌜ r ≡ (strays (q .atoms) (q .opening) || strays (q .atoms) (q .goals)) ⌝ }
 {
     let atoms = q.atoms as usize;
     word_strays(q.opening, atoms) || word_strays(q.goals, atoms)
@@ -153,7 +153,7 @@ pub fn refuse(number: u8, place: u16, value: u32) -> Answer
 // Checks 6 to 8.
 fn jobs_fault(l: Loaded, q: Ask) -> Answer
     requires { ⌜ (q .jobs ≤ 24) × (q .atoms ≤ 64) ⌝ }
-    ensures { λ r. ⌜ Judges (jobChecks (problem l q) accepted) (Narrow (problem l q)) r ⌝ }
+    ensures { λ r. ⌜ r ≡ answer (jobChecks (problem l q) accepted) 0 0 ⌝ }
 {
     let n = q.jobs;
     let long = first_duration(l, q);

@@ -2,23 +2,20 @@
 -- Assumes nothing.
 use mathlib.Core.Path.{_≡_, sym, ap, _∙_, subst}
 use mathlib.Core.Logic.{_⊎_, inl, inr, _↔_}
-use mathlib.Core.Bool.{Bool, _&&_, _||_}
+use mathlib.Core.Bool.{Bool, _||_}
 use mathlib.Core.List.{List}
-use Prim.Native.Nat.{ℕ, _^_, _≤_, _<_}
+use Prim.Native.Nat.{ℕ, _≤_, _<_}
 use native.Mathlib.Omega.{arith}
 use native.Mathlib.Decide.{decLt}
-use lib.Dec.{T, leb, ltb, ltb→lt, lt→ltb, le→leb}
-use lib.ListN.{length, getD}
-use Rattle.facts.specs.Facts.{has}
-use Rattle.facts.proofs.Bools.{and-of, or-cases, or-l, or-r}
-use Rattle.facts.proofs.Least.{any-of}
-use Rattle.facts.proofs.Sets.{has-lt}
+use lib.Dec.{T, ltb, ltb→lt, lt→ltb}
+use lib.ListN.{length}
+use Rattle.facts.proofs.Bools.{or-cases, or-l, or-r}
 use Rattle.rules.specs.Refusals.{Verdict, accepted, refused}
-use Rattle.rules.specs.Table.{Below, InOrder, strays, jobStrays, tableChecks, boundCheck}
+use Rattle.rules.specs.Table.{InOrder, tableChecks, boundCheck}
 use Rattle.rules.specs.Plans.{starts, Valid}
 use Rattle.rules.specs.Verdicts.{planChecks}
 use Rattle.rules.proofs.Refused.{Checks, if-pass, if-hit, if-zero, if-checks, then-checks, table-checks, bound-checks, plan-checks, stopped, went-on}
-use Rattle.rules.proofs.Checked.{Passed, passed, in-order}
+use Rattle.rules.proofs.Checked.{passed, in-order}
 use Rattle.rules.proofs.Judged.{judged}
 use Rattle.tables.specs.declared.Loaded.{Loaded}
 use Rattle.tables.specs.declared.Ask.{Ask}
@@ -108,42 +105,17 @@ module _ (short : Bool) (l : Loaded) (q : Ask) (s : List ℕ) {few : Bool} {A : 
 
 -- ── exactly these plans are accepted ──
 
--- the words of a table are words of 64 bits, as the code's types have them
-pub record Words (l : Loaded) (q : Ask) : Type 0 where
-  pub conditions : (i : ℕ) → getD (l .conditions) i 0 < 2 ^ 64
-  pub deletions : (i : ℕ) → getD (l .deletions) i 0 < 2 ^ 64
-  pub goals : q .goals < 2 ^ 64
-
-below : (k w : ℕ) → w < 2 ^ 64 → (T (strays k w) → ⊥) → Below k w
-unfolding strays
-below k w l n p h = go (decLt p k)
-  where
-    go : Dec (p < k) → p < k
-    go (yes m) = m
-    go (no m) = absurd (n (any-of (λ p. leb k p && has w p) 64 p (has-lt 64 w p l h) (and-of (leb k p) _ (le→leb k p (omega arith)) h)))
-
-pub ordered : (l : Loaded) (q : Ask) → Words l q → tableChecks (problem l q) accepted ≡ accepted → InOrder (problem l q)
-unfolding jobStrays
-ordered l q w h = in-order (problem l q) h
-    (λ i m. below (q .atoms) _ (w .conditions i) (λ x. k .facts i m (or-l (strays (q .atoms) (getD (l .conditions) i 0)) _ x)))
-    (λ i m. below (q .atoms) _ (w .deletions i) (λ x. k .facts i m
-    (or-r (strays (q .atoms) (getD (l .conditions) i 0)) _ (or-r (strays (q .atoms) (getD (l .additions) i 0)) _ x))))
-    (below (q .atoms) _ (w .goals) (λ x. k .edges (or-r (strays (q .atoms) (q .opening)) _ x)))
-  where
-    k : Passed (problem l q)
-    k = passed (problem l q) h
-
 -- a list of checks that accepts goes on, whatever comes behind it
 pub goes-on : (C : Verdict → Verdict) → Checks C → (x : Verdict) → C x ≡ accepted → (v : Verdict) → C v ≡ v
 goes-on C (inl (u, ne, e)) x h v = absurd (ne (ap (λ (y : Verdict). y .number) (sym (e x) ∙ h)))
 goes-on C (inr e) x h v = e v
 
 -- the answer's number is 0 exactly when lent memory is long enough, the table is in order by checks 4 to 9 and the plan is valid
-pub exactly : (l : Loaded) (q : Ask) (s : List ℕ) (r : Answer) → Words l q → r ≡ answer (offered (ltb (length s) (q .jobs)) l q s accepted) 0 0
+pub exactly : (l : Loaded) (q : Ask) (s : List ℕ) (r : Answer) → r ≡ answer (offered (ltb (length s) (q .jobs)) l q s accepted) 0 0
     → (r .number ≡ 0)
     ↔ ((q .jobs ≤ length s) × (q .jobs ≤ l .lent) × (tableChecks (problem l q) (boundCheck (q .bound) accepted) ≡ accepted) × Valid (problem l q) (q .bound) (starts s))
 unfolding boundCheck
-exactly l q s r w e = (there, back)
+exactly l q s r e = (there, back)
   where
     there : r .number ≡ 0
         → (q .jobs ≤ length s) × (q .jobs ≤ l .lent) × (tableChecks (problem l q) (boundCheck (q .bound) accepted) ≡ accepted) × Valid (problem l q) (q .bound) (starts s)
@@ -155,7 +127,7 @@ exactly l q s r w e = (there, back)
           at-most (q .jobs) (length s) (λ h. a .0 (or-l (ltb (length s) (q .jobs)) _ h)),
           at-most (q .jobs) (l .lent) (λ h. a .0 (or-r (ltb (length s) (q .jobs)) _ h)),
           on _ ∙ if-pass (ltb 2880 (q .bound)) 9 0 _ (c .0),
-          judge l q s (ordered l q w (on accepted)) .0 (c .1),
+          judge l q s (in-order (problem l q) (on accepted)) .0 (c .1),
         )
 
     back : (q .jobs ≤ length s) × (q .jobs ≤ l .lent) × (tableChecks (problem l q) (boundCheck (q .bound) accepted) ≡ accepted) × Valid (problem l q) (q .bound) (starts s)
@@ -163,7 +135,7 @@ exactly l q s r w e = (there, back)
     back (a, b, c, v) =
         let on = goes-on (tableChecks (problem l q)) (table-checks (problem l q)) _ c in
         let d = if-zero (ltb 2880 (q .bound)) 9 0 accepted (omega arith) (sym (on _) ∙ c) in
-        let plan : planChecks (problem l q) (q .bound) (starts s) accepted ≡ accepted = judge l q s (ordered l q w (on accepted)) .1 v in
+        let plan : planChecks (problem l q) (q .bound) (starts s) accepted ≡ accepted = judge l q s (in-order (problem l q) (on accepted)) .1 v in
         ap (λ (x : Answer). x .number) e
         ∙ ap (λ (x : Verdict). x .number)
         (if-pass (ltb (length s) (q .jobs) || ltb (l .lent) (q .jobs)) 3 0 _ long ∙ on _ ∙ if-pass (ltb 2880 (q .bound)) 9 0 _ (d .0) ∙ plan)

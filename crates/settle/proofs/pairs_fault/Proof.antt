@@ -1,9 +1,9 @@
+use Rattle.rules.proofs.Checked.{below}
 use mathlib.Core.Path.{_∙_}
 use native.Mathlib.Omega.{arith}
 use lib.Dec.{lt→ltb, ltb→lt}
 use denote.Ref.{now}
 use Rattle.facts.proofs.Bools.{test-yes, test-no}
-use Rattle.rules.specs.Table.{strays}
 use Rattle.rules.specs.Settling.{settleChecks}
 use Rattle.rules.proofs.Refused.{at-hit, at-miss, if-hit, if-pass}
 use Rattle.tables.proofs.Laws.{said, judges-no}
@@ -19,15 +19,15 @@ refuse-requires : tie.Need-refuse-requires
 refuse-requires c κs = search needs
 
 returns : tie.Need-returns
-unfolding settleChecks strays
-returns c = λ l. judges-no (c .refuse .ensures) (if-hit _ 15 601 _ (test-yes (c .before .before .word-strays .ensures .says) (c .before .if1 .taken))) (omega arith)
+unfolding settleChecks
+returns c = λ l. judges-no (c .refuse .ensures) (if-hit _ 15 601 _ (test-yes (c .before .before .word-strays .ensures) (c .before .if1 .taken))) (omega arith)
 
 refuse-requires-2 : tie.Need-refuse-requires-2
 refuse-requires-2 c κs = search needs
 
 returns-2 : tie.Need-returns-2
-unfolding settleChecks strays
-returns-2 c = λ l. judges-no (c .refuse2 .ensures) (if-pass _ 15 601 _ (test-no (c .before .before .before .word-strays .ensures .says) (c .before .before .if1 .left)) ∙ if-hit _ 15 600 _ (lt→ltb 600 _ (c .before .if2 .taken))) (omega arith)
+unfolding settleChecks
+returns-2 c = λ l. judges-no (c .refuse2 .ensures) (if-pass _ 15 601 _ (test-no (c .before .before .before .word-strays .ensures) (c .before .before .if1 .left)) ∙ if-hit _ 15 600 _ (lt→ltb 600 _ (c .before .if2 .taken))) (omega arith)
 
 first-outside-requires : tie.Need-first-outside-requires
 first-outside-requires c κs = search needs
@@ -39,20 +39,20 @@ refuse-requires-3 : tie.Need-refuse-requires-3
 refuse-requires-3 c κs = search needs
 
 returns-3 : tie.Need-returns-3
-unfolding settleChecks strays
-returns-3 c = λ l. judges-no (c .refuse3 .ensures) (if-pass _ 15 601 _ (test-no (c .before .before .before .before .before .word-strays .ensures .says) (c .before .before .before .before .if1 .left)) ∙ if-pass _ 15 600 _ (λ h. omega (arith, ltb→lt 600 (c .before .before .before .before .before .before .before .args .q .pairs) h)) ∙ at-hit _ _ 15 _ (c .before .before .first-outside .ensures) (c .before .if3 .taken)) (omega arith)
+unfolding settleChecks
+returns-3 c = λ l. judges-no (c .refuse3 .ensures) (if-pass _ 15 601 _ (test-no (c .before .before .before .before .before .word-strays .ensures) (c .before .before .before .before .if1 .left)) ∙ if-pass _ 15 600 _ (λ h. omega (arith, ltb→lt 600 (c .before .before .before .before .before .before .before .args .q .pairs) h)) ∙ at-hit _ _ 15 _ (c .before .before .first-outside .ensures) (c .before .if3 .taken)) (omega arith)
 
 done-requires : tie.Need-done-requires
 done-requires c κs = search needs
 
 returns-4 : tie.Need-returns-4
-unfolding settleChecks strays
+unfolding settleChecks
 returns-4 c = λ l. record {
-  says = c .done .ensures ∙ said 0 0 (if-pass _ 15 601 _ (test-no (c .before .before .before .before .before .word-strays .ensures .says) (c .before .before .before .before .if1 .left)) ∙ if-pass _ 15 600 _ (λ h. omega (arith, ltb→lt 600 (c .before .before .before .before .before .before .before .args .q .pairs) h)) ∙ at-miss _ _ 15 _ (c .before .before .first-outside .ensures) (c .before .if3 .left));
+  says = c .done .ensures ∙ said 0 0 (if-pass _ 15 601 _ (test-no (c .before .before .before .before .before .word-strays .ensures) (c .before .before .before .before .if1 .left)) ∙ if-pass _ 15 600 _ (λ h. omega (arith, ltb→lt 600 (c .before .before .before .before .before .before .before .args .q .pairs) h)) ∙ at-miss _ _ 15 _ (c .before .before .first-outside .ensures) (c .before .if3 .left));
   order = λ h. record {
     few = omega arith;
     lent = omega arith;
-    named = c .before .before .before .before .before .word-strays .ensures .fails (c .before .before .before .before .if1 .left);
+    named = below _ _ (test-no (c .before .before .before .before .before .word-strays .ensures) (c .before .before .before .before .if1 .left));
     paired = all-paired (c .before .before .before .before .before .before .before .args .q .set) (c .before .before .before .before .before .before .before .args .q .pairs) (c .before .before .first-outside .result) (now (c .before .before .before .before .before .before .before .args .pairs)) (c .before .before .first-outside .ensures) (c .before .if3 .left);
   };
 }

@@ -2,14 +2,14 @@ use mathlib.Core.Path.{sym, ap}
 use Rattle.rules.proofs.Refused.{job-checks}
 use Rattle.tables.specs.declared.Answer.{Answer}
 use Rattle.tables.specs.Tables.{problem}
-use Rattle.tables.proofs.Laws.{judges-no, ordered, accepts}
+use Rattle.tables.proofs.Laws.{judges-no, accepts}
 use mathlib.Core.Path.{_∙_}
 use native.Mathlib.Omega.{arith}
 use lib.Dec.{lt→ltb, ltb→lt}
 use Rattle.facts.proofs.Bools.{test-yes, test-no}
 use Rattle.rules.specs.Table.{tableChecks}
 use Rattle.rules.proofs.Refused.{if-hit, if-pass}
-use Rattle.rules.proofs.Checked.{in-range}
+use Rattle.rules.proofs.Checked.{in-range, in-order}
 use Rattle.tables.proofs.Laws.{said}
 use borrow.Author.Needs.{needs}
 use Rattle.tables.proofs.call_fault.Statement.{statement}
@@ -50,7 +50,7 @@ jobs-fault-requires c κs = (omega arith, in-range 1 64 _ (test-no (c .before .b
 
 returns-4 : tie.Need-returns-4
 unfolding tableChecks
-returns-4 c = record { says = c .jobs-fault .ensures .says ∙ said 0 0 (if-pass _ 3 0 _ (test-no (c .before .before .before .before .before .before .before .too-short .ensures) (c .before .before .before .before .before .before .if1 .left)) ∙ if-pass _ 4 0 _ (test-no (c .before .before .before .before .outside .ensures) (c .before .before .before .if2 .left)) ∙ if-pass _ 5 0 _ (λ h. omega (arith, ltb→lt 24 (c .before .before .before .before .before .before .before .before .args .q .jobs) h))); order = λ h. ordered (problem (c .before .before .before .before .before .before .before .before .args .l) (c .before .before .before .before .before .before .before .before .args .q)) (if-pass _ 4 0 _ (test-no (c .before .before .before .before .outside .ensures) (c .before .before .before .if2 .left)) ∙ if-pass _ 5 0 _ (λ h. omega (arith, ltb→lt 24 (c .before .before .before .before .before .before .before .before .args .q .jobs) h)) ∙ accepts (job-checks (problem (c .before .before .before .before .before .before .before .before .args .l) (c .before .before .before .before .before .before .before .before .args .q))) (ap (λ (x : Answer). x .number) (sym (c .jobs-fault .ensures .says)) ∙ h)) (c .jobs-fault .ensures .order h) }
+returns-4 c = record { says = c .jobs-fault .ensures ∙ said 0 0 (if-pass _ 3 0 _ (test-no (c .before .before .before .before .before .before .before .too-short .ensures) (c .before .before .before .before .before .before .if1 .left)) ∙ if-pass _ 4 0 _ (test-no (c .before .before .before .before .outside .ensures) (c .before .before .before .if2 .left)) ∙ if-pass _ 5 0 _ (λ h. omega (arith, ltb→lt 24 (c .before .before .before .before .before .before .before .before .args .q .jobs) h))); order = λ h. in-order (problem (c .before .before .before .before .before .before .before .before .args .l) (c .before .before .before .before .before .before .before .before .args .q)) (if-pass _ 4 0 _ (test-no (c .before .before .before .before .outside .ensures) (c .before .before .before .if2 .left)) ∙ if-pass _ 5 0 _ (λ h. omega (arith, ltb→lt 24 (c .before .before .before .before .before .before .before .before .args .q .jobs) h)) ∙ accepts (job-checks (problem (c .before .before .before .before .before .before .before .before .args .l) (c .before .before .before .before .before .before .before .before .args .q))) (ap (λ (x : Answer). x .number) (sym (c .jobs-fault .ensures)) ∙ h)) }
 
 pub call-fault-spec : {M : Type 1} → statement M
 call-fault-spec =

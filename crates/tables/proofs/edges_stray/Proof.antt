@@ -1,4 +1,3 @@
-use Rattle.tables.proofs.Laws.{tests-or, tests-first, tests-with}
 use Rattle.facts.proofs.Bools.{or-first, or-next}
 use borrow.Author.Needs.{needs}
 use Rattle.tables.proofs.edges_stray.Statement.{statement}
@@ -14,10 +13,10 @@ word-strays-requires-2 : tie.Need-word-strays-requires-2
 word-strays-requires-2 c κs = search needs
 
 returns : tie.Need-returns
-returns c = tests-first _ (c .before .word-strays .ensures) (c .if1 .taken)
+returns c = or-first _ (c .before .word-strays .ensures) (c .if1 .taken)
 
 returns-2 : tie.Need-returns-2
-returns-2 c = tests-with (λ h. h .1) (tests-or (c .before .before .word-strays .ensures) (c .before .if1 .left) (c .word-strays2 .ensures))
+returns-2 c = or-next (c .before .before .word-strays .ensures) (c .before .if1 .left) (c .word-strays2 .ensures)
 
 pub edges-stray-spec : {M : Type 1} → statement M
 edges-stray-spec =

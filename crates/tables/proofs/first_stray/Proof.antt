@@ -1,4 +1,4 @@
-use Rattle.tables.specs.Tables.{problem, JobBelow}
+use Rattle.tables.specs.Tables.{problem}
 use borrow.Author.Needs.{needs}
 use native.Mathlib.Omega.{arith}
 use Prim.Native.Nat.{ℕ, _-_, _≤_, _<_}
@@ -11,19 +11,19 @@ use Rattle.tables.proofs.first_stray.Statement.{statement}
 use Rattle.tables.proofs.first_stray.Tie as tie
 
 abbrev Inv-loop : tie.InvT-loop
-Inv-loop l q n i₀ i = (i ≤ n) × ((k : ℕ) → k < i → T (jobStrays (problem l q) k) → ⊥) × ((k : ℕ) → k < i → JobBelow (problem l q) k)
+Inv-loop l q n i₀ i = (i ≤ n) × ((k : ℕ) → k < i → T (jobStrays (problem l q) k) → ⊥)
 
 abbrev μ-loop : tie.MeasureT-loop
 μ-loop l q n i₀ i = n - i
 
 loop-holds : tie.Need-loop-holds Inv-loop μ-loop
-loop-holds c = (omega arith, (λ k h. absurd (omega arith)), λ k h. absurd (omega arith))
+loop-holds c = (omega arith, λ k h. absurd (omega arith))
 
 job-strays-requires : tie.Need-job-strays-requires Inv-loop μ-loop
 job-strays-requires c κs = search needs
 
 returns : tie.Need-returns Inv-loop μ-loop
-returns c = record { says = least-is _ _ _ (record { within = omega arith; hit = λ h. test-yes (c .before .job-strays .ensures .says) (c .if1 .taken); first = c .before .before .before .loop .inv .1 }); none = λ h. absurd (omega arith) }
+returns c = least-is _ _ _ (record { within = omega arith; hit = λ h. test-yes (c .before .job-strays .ensures) (c .if1 .taken); first = c .before .before .before .loop .inv .1 })
 
 add-i : tie.Need-add-i Inv-loop μ-loop
 add-i c = search needs
@@ -32,10 +32,10 @@ loop-less : tie.Need-loop-less Inv-loop μ-loop
 loop-less c = search needs
 
 loop-again : tie.Need-loop-again Inv-loop μ-loop
-loop-again c = (omega arith, below-more _ _ (c .before .before .before .loop .inv .1) (test-no (c .before .job-strays .ensures .says) (c .if1 .left)), below-more _ _ (c .before .before .before .loop .inv .2) (c .before .job-strays .ensures .fails (c .if1 .left)))
+loop-again c = (omega arith, below-more _ _ (c .before .before .before .loop .inv .1) (test-no (c .before .job-strays .ensures) (c .if1 .left)))
 
 returns-2 : tie.Need-returns-2 Inv-loop μ-loop
-returns-2 c = record { says = least-is _ _ _ (record { within = omega arith; hit = λ h. absurd (omega arith); first = λ k h. c .before .loop .inv .1 k (omega arith) }); none = λ h k l. c .before .loop .inv .2 k (omega arith) }
+returns-2 c = least-is _ _ _ (record { within = omega arith; hit = λ h. absurd (omega arith); first = λ k h. c .before .loop .inv .1 k (omega arith) })
 
 pub first-stray-spec : {M : Type 1} → statement M
 first-stray-spec =

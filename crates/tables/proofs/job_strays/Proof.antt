@@ -1,6 +1,3 @@
-use mathlib.Core.Path.{sym, _∙_}
-use mathlib.Core.Bool.{true≢false}
-use Rattle.tables.proofs.Laws.{tests-or, tests-first, tests-with}
 use Rattle.facts.proofs.Bools.{or-first, or-next}
 use Rattle.rules.specs.Table.{jobStrays}
 use borrow.Author.Needs.{needs}
@@ -39,15 +36,15 @@ word-strays-requires-3 c κs = search needs
 
 returns : tie.Need-returns
 unfolding jobStrays
-returns c = tests-first _ (c .before .word-strays .ensures) (c .if1 .taken)
+returns c = or-first _ (c .before .word-strays .ensures) (c .if1 .taken)
 
 returns-2 : tie.Need-returns-2
 unfolding jobStrays
-returns-2 c = tests-with (λ h. absurd h) (record { says = or-next (c .before .before .before .before .word-strays .ensures .says) (c .before .before .before .if1 .left) (or-first _ (c .before .word-strays2 .ensures .says) (c .if2 .taken)); fails = λ h. true≢false (sym (c .if2 .taken) ∙ h) })
+returns-2 c = or-next (c .before .before .before .before .word-strays .ensures) (c .before .before .before .if1 .left) (or-first _ (c .before .word-strays2 .ensures) (c .if2 .taken))
 
 returns-3 : tie.Need-returns-3
 unfolding jobStrays
-returns-3 c = tests-with (λ h. record { conditions = h .0; additions = h .1 .0; deletions = h .1 .1 }) (tests-or (c .before .before .before .before .before .before .word-strays .ensures) (c .before .before .before .before .before .if1 .left) (tests-or (c .before .before .before .word-strays2 .ensures) (c .before .before .if2 .left) (c .word-strays3 .ensures)))
+returns-3 c = or-next (c .before .before .before .before .before .before .word-strays .ensures) (c .before .before .before .before .before .if1 .left) (or-next (c .before .before .before .word-strays2 .ensures) (c .before .before .if2 .left) (c .word-strays3 .ensures))
 
 pub job-strays-spec : {M : Type 1} → statement M
 job-strays-spec =

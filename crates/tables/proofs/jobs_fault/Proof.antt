@@ -1,5 +1,3 @@
-use native.Mathlib.Omega.{arith}
-use Rattle.tables.proofs.Laws.{judges-no}
 use mathlib.Core.Path.{_∙_}
 use Rattle.facts.proofs.Bools.{test-yes, test-no}
 use Rattle.rules.specs.Table.{jobChecks}
@@ -20,7 +18,7 @@ refuse-requires c κs = search needs
 
 returns : tie.Need-returns
 unfolding jobChecks
-returns c = judges-no (c .refuse .ensures) (at-hit _ _ 6 _ (c .before .before .first-duration .ensures) (c .before .if1 .taken)) (omega arith)
+returns c = c .refuse .ensures ∙ said 0 0 (at-hit _ _ 6 _ (c .before .before .first-duration .ensures) (c .before .if1 .taken))
 
 first-stray-requires : tie.Need-first-stray-requires
 first-stray-requires c κs = search needs
@@ -33,7 +31,7 @@ refuse-requires-2 c κs = search needs
 
 returns-2 : tie.Need-returns-2
 unfolding jobChecks
-returns-2 c = judges-no (c .refuse2 .ensures) (at-miss _ _ 6 _ (c .before .before .before .before .first-duration .ensures) (c .before .before .before .if1 .left) ∙ at-hit _ _ 7 _ (c .before .before .first-stray .ensures .says) (c .before .if2 .taken)) (omega arith)
+returns-2 c = c .refuse2 .ensures ∙ said 0 0 (at-miss _ _ 6 _ (c .before .before .before .before .first-duration .ensures) (c .before .before .before .if1 .left) ∙ at-hit _ _ 7 _ (c .before .before .first-stray .ensures) (c .before .if2 .taken))
 
 edges-stray-requires : tie.Need-edges-stray-requires
 edges-stray-requires c κs = search needs
@@ -43,7 +41,7 @@ refuse-requires-3 c κs = search needs
 
 returns-3 : tie.Need-returns-3
 unfolding jobChecks
-returns-3 c = judges-no (c .refuse3 .ensures) (at-miss _ _ 6 _ (c .before .before .before .before .before .before .first-duration .ensures) (c .before .before .before .before .before .if1 .left) ∙ at-miss _ _ 7 _ (c .before .before .before .before .first-stray .ensures .says) (c .before .before .before .if2 .left) ∙ if-hit _ 7 24 _ (test-yes (c .before .before .edges-stray .ensures .says) (c .before .if3 .taken))) (omega arith)
+returns-3 c = c .refuse3 .ensures ∙ said 0 0 (at-miss _ _ 6 _ (c .before .before .before .before .before .before .first-duration .ensures) (c .before .before .before .before .before .if1 .left) ∙ at-miss _ _ 7 _ (c .before .before .before .before .first-stray .ensures) (c .before .before .before .if2 .left) ∙ if-hit _ 7 24 _ (test-yes (c .before .before .edges-stray .ensures) (c .before .if3 .taken)))
 
 first-undone-requires : tie.Need-first-undone-requires
 first-undone-requires c κs = search needs
@@ -56,14 +54,14 @@ refuse-requires-4 c κs = search needs
 
 returns-4 : tie.Need-returns-4
 unfolding jobChecks
-returns-4 c = judges-no (c .refuse4 .ensures) (at-miss _ _ 6 _ (c .before .before .before .before .before .before .before .before .first-duration .ensures) (c .before .before .before .before .before .before .before .if1 .left) ∙ at-miss _ _ 7 _ (c .before .before .before .before .before .before .first-stray .ensures .says) (c .before .before .before .before .before .if2 .left) ∙ if-pass _ 7 24 _ (test-no (c .before .before .before .before .edges-stray .ensures .says) (c .before .before .before .if3 .left)) ∙ at-hit _ _ 8 _ (c .before .before .first-undone .ensures) (c .before .if4 .taken)) (omega arith)
+returns-4 c = c .refuse4 .ensures ∙ said 0 0 (at-miss _ _ 6 _ (c .before .before .before .before .before .before .before .before .first-duration .ensures) (c .before .before .before .before .before .before .before .if1 .left) ∙ at-miss _ _ 7 _ (c .before .before .before .before .before .before .first-stray .ensures) (c .before .before .before .before .before .if2 .left) ∙ if-pass _ 7 24 _ (test-no (c .before .before .before .before .edges-stray .ensures) (c .before .before .before .if3 .left)) ∙ at-hit _ _ 8 _ (c .before .before .first-undone .ensures) (c .before .if4 .taken))
 
 done-requires : tie.Need-done-requires
 done-requires c κs = search needs
 
 returns-5 : tie.Need-returns-5
 unfolding jobChecks
-returns-5 c = record { says = c .done .ensures ∙ said 0 0 (at-miss _ _ 6 _ (c .before .before .before .before .before .before .before .before .first-duration .ensures) (c .before .before .before .before .before .before .before .if1 .left) ∙ at-miss _ _ 7 _ (c .before .before .before .before .before .before .first-stray .ensures .says) (c .before .before .before .before .before .if2 .left) ∙ if-pass _ 7 24 _ (test-no (c .before .before .before .before .edges-stray .ensures .says) (c .before .before .before .if3 .left)) ∙ at-miss _ _ 8 _ (c .before .before .first-undone .ensures) (c .before .if4 .left)); order = λ h. record { jobs = c .before .before .before .before .before .before .first-stray .ensures .none (c .before .before .before .before .before .if2 .left); goals = c .before .before .before .before .edges-stray .ensures .fails (c .before .before .before .if3 .left) } }
+returns-5 c = c .done .ensures ∙ said 0 0 (at-miss _ _ 6 _ (c .before .before .before .before .before .before .before .before .first-duration .ensures) (c .before .before .before .before .before .before .before .if1 .left) ∙ at-miss _ _ 7 _ (c .before .before .before .before .before .before .first-stray .ensures) (c .before .before .before .before .before .if2 .left) ∙ if-pass _ 7 24 _ (test-no (c .before .before .before .before .edges-stray .ensures) (c .before .before .before .if3 .left)) ∙ at-miss _ _ 8 _ (c .before .before .first-undone .ensures) (c .before .if4 .left))
 
 pub jobs-fault-spec : {M : Type 1} → statement M
 jobs-fault-spec =

@@ -10,7 +10,7 @@ shr-result : tie.Need-shr-result
 shr-result c = search needs
 
 returns-2 : tie.Need-returns-2
-returns-2 c = strays-shr (c .before .args .atoms) (c .before .args .w) (c .before .fits .w .fits)
+returns-2 c = strays-shr (c .before .args .atoms) (c .before .args .w)
 
 pub word-strays-spec : {M : Type 1} → statement M
 word-strays-spec = tie.close (tie.spec returns shr-result returns-2)
