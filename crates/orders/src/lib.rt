@@ -225,6 +225,19 @@ fn pair(s: State, a: usize, b: usize, step: u16, hit: bool) -> State
     clash(t, a, b)
 }
 
+// The rules may tell something of the pair: a is not out, and the order is known or the windows settle it. Any answer is right; this one saves work.
+fn stirs(barred: u32, known: u32, a: usize, lo: u16, step: u16, hi: u16) -> bool
+    requires { ⌜ a < 24 ⌝ }
+{
+    if has(barred, a) {
+        return false;
+    }
+    if has(known, a) {
+        return true;
+    }
+    wide(hi) < wide(lo) + wide(step)
+}
+
 // All pairs with b.
 fn pairs_at(s: State, b: usize, steps: &[u16], hits: &[u32]) -> State
     requires { ⌜ (b < 24) × ((length (now steps) ≡ 24) × (length (now hits) ≡ 24)) ⌝ }
@@ -232,8 +245,11 @@ fn pairs_at(s: State, b: usize, steps: &[u16], hits: &[u32]) -> State
 {
     let mut t = s;
     for a in 0..24 {
-        let hit = has(hits[a], b);
-        t = pair(t, a, b, steps[a], hit);
+        let known = t.sure[b] | t.never[b];
+        if stirs(t.barred, known, a, t.lo[a], steps[a], t.hi[b]) {
+            let hit = has(hits[a], b);
+            t = pair(t, a, b, steps[a], hit);
+        }
     }
     t
 }
@@ -245,7 +261,9 @@ pub fn pairs(s: State, steps: &[u16], hits: &[u32]) -> State
 {
     let mut t = s;
     for b in 0..24 {
-        t = pairs_at(t, b, steps, hits);
+        if !has(t.barred, b) {
+            t = pairs_at(t, b, steps, hits);
+        }
     }
     t
 }
@@ -284,7 +302,9 @@ fn through_all(s: State, b: usize) -> State
 {
     let mut t = s;
     for m in 0..24 {
-        t = through(t, m, b);
+        if has(t.inside, m) {
+            t = through(t, m, b);
+        }
     }
     t
 }
@@ -306,7 +326,9 @@ pub fn chains(s: State) -> State
 {
     let mut t = s;
     for b in 0..24 {
-        t = shut(through_all(t, b), b);
+        if !has(t.barred, b) {
+            t = shut(through_all(t, b), b);
+        }
     }
     t
 }

@@ -38,8 +38,10 @@ fn cands(s: State, b: usize, adders: u32, dang: u32) -> u32
 {
     let mut w: u32 = 0;
     for a in 0..24 {
-        let hit = flaws::may_job(s, b, a, adders, dang);
-        w = orders::with_if(w, a, hit);
+        if orders::has(adders, a) {
+            let hit = flaws::may_job(s, b, a, adders, dang);
+            w = orders::with_if(w, a, hit);
+        }
     }
     w
 }
@@ -276,26 +278,6 @@ fn condition_rule(
     with_start(s, b, w, kills)
 }
 
-// The same, if p is a fact of the word.
-fn condition_if(
-    s: State,
-    b: usize,
-    word: u64,
-    p: usize,
-    opening: u64,
-    adders: u32,
-    kills: u32,
-    steps: &[u16],
-) -> State
-    requires { ⌜ (b ≤ 24) × ((p < 64) × (length (now steps) ≡ 24)) ⌝ }
-    ensures { λ r. ⌜ ((P : Search) → (T (has word p) → Rule P b p opening adders kills) → AllTakes (now (steps .entry)) P → Keeps P (view s) (view r)) ⌝ }
-{
-    if !flaws::fact(word, p) {
-        return s;
-    }
-    condition_rule(s, b, p, opening, adders, kills, steps)
-}
-
 // The same for all facts of the word.
 fn conditions_rule(
     s: State,
@@ -311,7 +293,9 @@ fn conditions_rule(
 {
     let mut t = s;
     for p in 0..64 {
-        t = condition_if(t, b, word, p, opening, adders[p], killers[p], steps);
+        if flaws::fact(word, p) {
+            t = condition_rule(t, b, p, opening, adders[p], killers[p], steps);
+        }
     }
     t
 }
@@ -335,6 +319,16 @@ fn consumer_rule(
     conditions_rule(s, b, conds[b], ask.opening, adders, killers, steps)
 }
 
+// The consumer b is End, or a job that is not out. Any answer is right; this one saves work.
+fn live(barred: u32, b: usize) -> bool
+    requires { ⌜ b ≤ 24 ⌝ }
+{
+    if b == 24 {
+        return true;
+    }
+    !orders::has(barred, b)
+}
+
 // The rules on supports for all consumers.
 fn supports_rule(
     s: State,
@@ -349,7 +343,9 @@ fn supports_rule(
 {
     let mut t = s;
     for b in 0..25 {
-        t = consumer_rule(t, b, ask, conds, adders, killers, steps);
+        if live(t.barred, b) {
+            t = consumer_rule(t, b, ask, conds, adders, killers, steps);
+        }
     }
     t
 }

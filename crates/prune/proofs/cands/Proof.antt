@@ -1,12 +1,15 @@
+use Rattle.prune.proofs.Laws.{never}
+use Prim.Native.Nat.{_+_, _-_, _≤_, ℕ}
+use Rattle.orders.proofs.Tests.{left}
+use mathlib.Core.Logic.{⊎-elim}
+use mathlib.Core.Path.{refl, sym, subst, _≡_}
 use native.Mathlib.Omega.{arith}
-use Prim.Native.Nat.{ℕ, _-_, _≤_}
-use mathlib.Core.Path.{_≡_}
 use borrow.Author.Needs.{needs}
-use Rattle.states.specs.State.{Search, MayJob}
-use Rattle.orders.specs.View.{view}
 use Rattle.flaws.specs.Flaw.{who, Cols, Scene}
-use Rattle.flaws.proofs.Flaws as fl
+use Rattle.orders.specs.View.{view}
+use Rattle.states.specs.State.{Search, MayJob}
 use Rattle.prune.proofs.cands.Statement.{statement}
+use Rattle.flaws.proofs.Flaws as fl
 use Rattle.prune.proofs.cands.Tie as tie
 
 abbrev Inv-loop : tie.InvT-loop
@@ -17,6 +20,9 @@ abbrev μ-loop : tie.MeasureT-loop
 
 loop-holds : tie.Need-loop-holds Inv-loop μ-loop
 loop-holds c = (omega arith, λ P p R k. fl.cols-zero)
+
+has-requires : tie.Need-has-requires Inv-loop μ-loop
+has-requires c κs = search needs
 
 may-job-requires : tie.Need-may-job-requires Inv-loop μ-loop
 may-job-requires c κs = search needs
@@ -31,7 +37,7 @@ loop-less : tie.Need-loop-less Inv-loop μ-loop
 loop-less c = search needs
 
 loop-again : tie.Need-loop-again Inv-loop μ-loop
-loop-again c = (omega arith, λ P p R k. fl.cols-next (c .before .before .before .loop .inv .1 P p R k) (c .before .may-job .ensures P p R k) (c .with-if .ensures))
+loop-again c = let l = c .before .before .before .loop in let b = c .before .before .before .before .args .b in let s = c .before .before .before .before .args .s in (omega arith, λ P p R k. ⊎-elim (λ x. subst (λ (w : ℕ). Cols (MayJob P (view s) p (who b)) w (l .a + 1)) (sym (x .3)) (fl.cols-next (l .inv .1 P p R k) (x .1 .ensures P p R k) (x .2 .ensures))) (λ x. subst (λ (w : ℕ). Cols (MayJob P (view s) p (who b)) w (l .a + 1)) (sym (x .1)) (fl.cols-next (l .inv .1 P p R k) (never (λ m. left (c .before .has .ensures) (x .0 .left) (k .adders .at (l .a) (omega arith) (m .below, m .gives)))) refl)) (c .if1 .came))
 
 returns : tie.Need-returns Inv-loop μ-loop
 returns c P p R k = let e : c .before .loop .a ≡ 24 = omega arith in rw e at (c .before .loop .inv .1 P p R k)
@@ -43,6 +49,7 @@ cands-spec =
     Inv-loop
     μ-loop
     loop-holds
+    has-requires
     may-job-requires
     with-if-requires
     add-a
