@@ -78,14 +78,20 @@ def line(*numbers):
     print(''.join('%d ' % n for n in numbers))
 
 
+def digest(numbers):
+    total = 1
+    for n in numbers:
+        total = (total * 31 + n) % 65521
+    return total
+
+
 def look(data, room):
+    """What is said, the numbers, the records of the jobs and one behind them, and a number for all 255 records, none of which was empty."""
     verdict, got = read(bytes(data), room)
-    if got is None:
-        line(*verdict, 0, 0, 0, 0, 0, 0, 0, 0, 0, 0, 0)
-        return
-    jobs, atoms, opening, goals, bound, records = got
-    shown = (records + [(0, 0, 0, 0)] * 24)[:min(jobs + 1, 24)]
-    line(*verdict, 0, jobs, atoms, opening, goals, bound, room, *(n for record in shown for n in record))
+    jobs, atoms, opening, goals, bound, records = got or (0, 0, 0, 0, 0, [])
+    held = records + [(5, 6, 7, 8)] * (255 - jobs)
+    shown = held[:min(jobs + 1, 24)]
+    line(*verdict, 0, jobs, atoms, opening, goals, bound, *(n for record in shown for n in record), digest(n for record in held for n in record))
 
 
 TABLE = [(0x8000000000000001, 0x0102030405060708, 0x1020304050607080, 300), (0, 1, 2, 960)] + [(0, 0, 0, 0)] * 22
@@ -137,14 +143,11 @@ def appends():
     for jobs, lent, used, bound, size in (
             (2, 2, 0, 0, 88), (2, 2, 0, 0, 87), (2, 1, 0, 0, 88), (2, 24, 65448, 2880, 65600), (2, 24, 65449, 2880, 65600),
             (2, 24, 5, 2881, 200), (3, 24, 0, 0, 200), (25, 25, 0, 0, 1000), (25, 24, 0, 0, 1000),
-            (3000, 3000, 0, 0, 1000), (0, 0, 65512, 0, 65600), (0, 0, MANY, 0, 200), (MANY, 0, MANY, 0, 200),
+            (3000, 255, 0, 0, 1000), (0, 0, 65512, 0, 65600), (0, 0, MANY, 0, 200), (MANY, 0, MANY, 0, 200),
             (0, 0, 100, 0, 123)):
         part = bytearray([7]) * size
         answer = write(TABLE, lent, jobs, ATOMS, OPENING, GOALS, bound, used, part)
-        total = 1
-        for byte in part + bytearray([7]) * 8:
-            total = (total * 31 + byte) % 65521
-        line(*answer, total)
+        line(*answer, digest(part + bytearray([7]) * 8))
 
 
 if sys.argv[1:] == ['appends']:

@@ -4,13 +4,14 @@ ghost use mathlib.Core.Path.{_≡_};
 ghost use Prim.Native.Nat.{_+_, _*_, _≤_, _<_};
 ghost use lib.ListN.{length, take};
 ghost use Rattle.io.specs.Counts.{Counts};
-use jobfile::Read;
+use by_value::JobFile;
+use front::Save;
 use libc::STDIN_FILENO;
 use libc::STDOUT_FILENO;
 use readings::BenchReading;
+use records::Action;
 use tables::Answer;
 use tables::Ask;
-use tables::Loaded;
 
 // ── printing ──
 
@@ -127,41 +128,50 @@ fn ask_of(w: [u64; 16]) -> Ask {
     }
 }
 
-// Record i of those lent becomes job i.
-fn with_record(l: Loaded, records: &[u8], i: usize) -> Loaded
-    requires { ⌜ (i < 24) × (32 * i + 32 ≤ length (now records)) ⌝ }
+// The job records of a call, and how many of them are lent.
+struct Held {
+    records: [Action; 255],
+    lent: u8,
+}
+
+// Record i of the bytes.
+fn record_in(bytes: &[u8], i: usize) -> Action
+    requires { ⌜ (i < 255) × (32 * i + 32 ≤ length (now bytes)) ⌝ }
 {
     let at = 32 * i;
-    let mut t = l;
-    t.conditions[i] = bytes_le::number(records, at, 8);
-    t.additions[i] = bytes_le::number(records, at + 8, 8);
-    t.deletions[i] = bytes_le::number(records, at + 16, 8);
-    t.durations[i] = (bytes_le::number(records, at + 24, 2) % 65536) as u16;
-    t
-}
-
-fn no_records(lent: usize) -> Loaded {
-    let words = [0u64; 24];
-    let durations = [0u16; 24];
-    Loaded {
-        conditions: words,
-        additions: words,
-        deletions: words,
-        durations,
-        lent,
+    Action {
+        conditions: bytes_le::number(bytes, at, 8),
+        additions: bytes_le::number(bytes, at + 8, 8),
+        deletions: bytes_le::number(bytes, at + 16, 8),
+        duration: (bytes_le::number(bytes, at + 24, 2) % 65536) as u16,
     }
 }
 
-// The first 24 records lent, and how many were.
-fn load(records: &[u8]) -> Loaded {
-    let lent = records.len() / 32;
-    let mut l = no_records(lent);
-    for i in 0..24 {
-        if i < lent {
-            l = with_record(l, records, i);
+// Record i becomes a.
+fn with_record(h: Held, i: usize, a: Action) -> Held
+    requires { ⌜ i < 255 ⌝ }
+{
+    let mut g = h;
+    g.records[i] = a;
+    g
+}
+
+// Records of zeros.
+fn no_records(lent: u8) -> Held {
+    let records = by_value::blank();
+    Held { records, lent }
+}
+
+// The records that are lent.
+fn load(bytes: &[u8]) -> Held {
+    let n = bytes.len() / 32;
+    let mut h = no_records((n % 256) as u8);
+    for i in 0..255 {
+        if i < n {
+            h = with_record(h, i, record_in(bytes, i));
         }
     }
-    l
+    h
 }
 
 // The numbers of two bytes that the table holds, as many as there is room for.
@@ -193,96 +203,81 @@ fn fill_halves(out: &mut [u16], half: u16) {
 // ── the calls ──
 
 // 2, 3, 6, 7: the calls that fill numbers of two bytes.
-fn call_halves(kind: u64, l: Loaded, q: Ask, table: &[u8], out: &mut [u16]) -> Answer {
+fn call_halves(kind: u64, h: Held, q: Ask, table: &[u8], out: &mut [u16]) -> Answer {
+    let records = h.records;
     if kind == 2 {
-        return planning::plan_within(l, q, out);
+        return by_value::plan_within(records, h.lent, q, out);
     }
     if kind == 3 {
-        return planning::least_bound(l, q, out);
+        return by_value::least_bound(records, h.lent, q, out);
     }
     if kind == 6 {
-        return estimates::earliest(l, q, out);
+        return by_value::earliest(records, h.lent, q, out);
     }
-    settle::settle(l, q, table, out)
+    by_value::settle(records, h.lent, q, table, out)
 }
 
-fn fill_numbers(w: [u64; 16], l: Loaded, q: Ask, table: &[u8], out: &mut [u16], text: &mut [u8]) {
+fn fill_numbers(w: [u64; 16], h: Held, q: Ask, table: &[u8], out: &mut [u16], text: &mut [u8]) {
     fill_halves(out, ((w[11] % 256) as u16) * 257);
-    let a = call_halves(w[0], l, q, table, out);
+    let a = call_halves(w[0], h, q, table, out);
     show_answer(a);
     let mut bytes = [0u8; 4096];
     show_halves(out, &mut bytes, text);
 }
 
 // 4, 5: the calls that fill bytes.
-fn call_bytes(kind: u64, l: Loaded, q: Ask, starts: &[u16], out: &mut [u8]) -> Answer {
+fn call_bytes(kind: u64, h: Held, q: Ask, starts: &[u16], out: &mut [u8]) -> Answer {
+    let records = h.records;
     if kind == 4 {
-        return bindings::supports(l, q, starts, out);
+        return by_value::supports(records, h.lent, q, starts, out);
     }
-    bindings::binding_pairs(l, q, starts, out)
+    by_value::binding_pairs(records, h.lent, q, starts, out)
 }
 
-fn fill_table(w: [u64; 16], l: Loaded, q: Ask, starts: &[u16], out: &mut [u8], text: &mut [u8]) {
+fn fill_table(w: [u64; 16], h: Held, q: Ask, starts: &[u16], out: &mut [u8], text: &mut [u8]) {
     fill_bytes(out, (w[11] % 256) as u8);
-    let a = call_bytes(w[0], l, q, starts, out);
+    let a = call_bytes(w[0], h, q, starts, out);
     show_answer(a);
     show_bytes(out, text);
 }
 
-// 26 bytes of a record: as it was lent, or as it was read.
-fn show_lent(records: &[u8], i: usize, text: &mut [u8]) {
-    if i < records.len() / 32 {
-        let at = 32 * i;
-        show_hex(&records[at..at + 26], text);
-    }
+// The 26 bytes of a record, as letters.
+fn show_record(a: Action, text: &mut [u8]) {
+    let mut bytes = [0u8; 26];
+    bytes_le::put(a.conditions, 8, 0, &mut bytes);
+    bytes_le::put(a.additions, 8, 8, &mut bytes);
+    bytes_le::put(a.deletions, 8, 16, &mut bytes);
+    bytes_le::put(entries::wide(a.duration) as u64, 2, 24, &mut bytes);
+    show_hex(&bytes, text);
 }
 
-// The record of job i as the file has it.
-fn show_read(l: Loaded, i: usize, text: &mut [u8])
-    requires { ⌜ i < 24 ⌝ }
-{
-    let mut bytes = [0u8; 32];
-    bytes_le::put(l.conditions[i], 8, 0, &mut bytes);
-    bytes_le::put(l.additions[i], 8, 8, &mut bytes);
-    bytes_le::put(l.deletions[i], 8, 16, &mut bytes);
-    bytes_le::put(entries::wide(l.durations[i]) as u64, 2, 24, &mut bytes);
-    show_lent(&bytes, 0, text);
-}
-
-// Record i after the call: the file's where it has so many jobs, else as it was lent.
-fn show_record(r: Read, records: &[u8], i: usize, text: &mut [u8]) {
-    if i < r.ask.jobs {
-        if i < 24 {
-            show_read(r.table, i, text);
-        }
-    } else {
-        show_lent(records, i, text);
-    }
-}
-
-fn show_records(r: Read, records: &[u8], text: &mut [u8]) {
-    let n = records.len() / 32;
+// The lent records after the call.
+fn show_records(r: JobFile, lent: u8, text: &mut [u8]) {
+    let n = lent as usize;
     for i in 0..n {
-        show_record(r, records, i, text);
+        show_record(r.records[i], text);
     }
 }
 
 // 8: reading a file.
-fn read_file(file: &[u8], records: &[u8], text: &mut [u8]) {
-    let r = jobfile_read::read_file(file, records.len() / 32);
-    show_said(r.answer.number, r.answer.place);
-    show_next(r.ask.opening);
-    show_next(r.ask.goals);
-    show_next(r.ask.bound as u64);
-    show_next(r.ask.jobs as u64);
-    show_next(r.ask.atoms as u64);
+fn read_file(h: Held, file: &[u8], text: &mut [u8]) {
+    let records = h.records;
+    let r = by_value::read_file(file, records, h.lent);
+    show_said(r.said.answer.number, r.said.answer.place);
+    show_next(r.said.ask.opening);
+    show_next(r.said.ask.goals);
+    show_next(r.said.ask.bound as u64);
+    show_next(r.said.ask.jobs as u64);
+    show_next(r.said.ask.atoms as u64);
     blank();
-    show_records(r, records, text);
+    show_records(r, h.lent, text);
 }
 
 // 9: writing a file.
-fn write_file(w: [u64; 16], l: Loaded, q: Ask, buf: &mut [u8], text: &mut [u8]) {
-    let a = jobfile_write::write_file(l, q, w[6] as usize, buf);
+fn write_file(w: [u64; 16], h: Held, ask: Ask, buf: &mut [u8], text: &mut [u8]) {
+    let records = h.records;
+    let used = w[6] as usize;
+    let a = by_value::write_file(records, h.lent, Save { ask, used }, buf);
     show_answer(a);
     show_bytes(buf, text);
 }
@@ -359,37 +354,38 @@ fn marks(w: [u64; 16], table: &[u8]) {
 }
 
 // 1, 4, 5: the calls with an offered plan.
-fn starts_call(w: [u64; 16], l: Loaded, q: Ask, starts: &[u16], room: &mut [u8], text: &mut [u8]) {
+fn starts_call(w: [u64; 16], h: Held, q: Ask, starts: &[u16], room: &mut [u8], text: &mut [u8]) {
     if w[0] == 1 {
-        show_answer(verdict::check_plan(l, q, starts));
+        let records = h.records;
+        show_answer(by_value::check_plan(records, h.lent, q, starts));
         return;
     }
     let k = first(w[10] as usize, room);
-    fill_table(w, l, q, starts, &mut room[..k], text);
+    fill_table(w, h, q, starts, &mut room[..k], text);
 }
 
-fn with_starts(w: [u64; 16], l: Loaded, q: Ask, table: &[u8], space: &mut [u16], text: &mut [u8]) {
+fn with_starts(w: [u64; 16], h: Held, q: Ask, table: &[u8], space: &mut [u16], text: &mut [u8]) {
     let n = halves(table, space);
     let mut room = [0u8; 2048];
-    starts_call(w, l, q, &space[..n], &mut room, text);
+    starts_call(w, h, q, &space[..n], &mut room, text);
 }
 
-fn numbers_call(w: [u64; 16], l: Loaded, q: Ask, table: &[u8], room: &mut [u16], text: &mut [u8]) {
+fn numbers_call(w: [u64; 16], h: Held, q: Ask, table: &[u8], room: &mut [u16], text: &mut [u8]) {
     let k = w[10] as usize;
     if k <= room.len() {
-        fill_numbers(w, l, q, table, &mut room[..k], text);
+        fill_numbers(w, h, q, table, &mut room[..k], text);
     }
 }
 
 // The calls on a table of jobs.
-fn table_call(w: [u64; 16], l: Loaded, q: Ask, table: &[u8], text: &mut [u8]) {
+fn table_call(w: [u64; 16], h: Held, q: Ask, table: &[u8], text: &mut [u8]) {
     let kind = w[0];
     if kind == 1 || kind == 4 || kind == 5 {
         let mut space = [0u16; 32850];
-        with_starts(w, l, q, table, &mut space, text);
+        with_starts(w, h, q, table, &mut space, text);
     } else if kind == 2 || kind == 3 || kind == 6 || kind == 7 {
         let mut room = [0u16; 2048];
-        numbers_call(w, l, q, table, &mut room, text);
+        numbers_call(w, h, q, table, &mut room, text);
     } else {
         io::write_all(STDOUT_FILENO, b"unknown");
     }
@@ -397,7 +393,7 @@ fn table_call(w: [u64; 16], l: Loaded, q: Ask, table: &[u8], text: &mut [u8]) {
 
 fn answer(w: [u64; 16], records: &[u8], table: &mut [u8], text: &mut [u8]) {
     if w[0] == 8 {
-        read_file(table, records, text);
+        read_file(load(records), table, text);
     } else if w[0] == 9 {
         write_file(w, load(records), ask_of(w), table, text);
     } else if w[0] == 10 {

@@ -5,4 +5,3 @@ pub mod Derives
 pub mod Fits
 pub mod Only
 pub mod Back
-pub mod AsRead

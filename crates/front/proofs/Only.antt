@@ -1,6 +1,6 @@
 -- Two results of one call that meet its promise are equal: the answer and all lent memory, refusals included. Over lent records each is the theorem of the call on numbers, at the table of those records.
 -- Assumes nothing.
-use mathlib.Core.Path.{_≡_, sym, ap₂, _∙_}
+use mathlib.Core.Path.{_≡_, sym, _∙_}
 use mathlib.Core.List.{List}
 use Prim.Native.Nat.{ℕ}
 use lib.Dec.{ltb}
@@ -25,9 +25,8 @@ use Rattle.jobfile_write.proofs.Only as jobfile_write
 use Rattle.records.specs.declared.Action.{Action}
 use Rattle.records.specs.Records.{loaded}
 use Rattle.front.specs.declared.ReadAnswer.{ReadAnswer}
-use Rattle.front.specs.declared.JobFile.{JobFile}
 use Rattle.front.specs.declared.Save.{Save}
-use Rattle.front.specs.Files.{whole, Reads, FileRead}
+use Rattle.front.specs.Files.{Reads}
 
 module _ (ts : List Action) (q : Ask) (r s : Answer) where
   abbrev l : Loaded
@@ -64,6 +63,3 @@ write-file-only ts w old new new′ r s = jobfile_write.write-file-only (loaded 
 
 pub read-file-only : (file : List ℕ) (old new new′ : List Action) (r s : ReadAnswer) → Reads file old new r → Reads file old new′ s → (r ≡ s) × (new ≡ new′)
 read-file-only file old new new′ r s x y = (x .says ∙ sym (y .says), x .records ∙ sym (y .records))
-
-pub read-array-only : (file : List ℕ) (r s : JobFile) → FileRead file r → FileRead file s → r ≡ s
-read-array-only file r s x y = ap₂ whole (x .says ∙ sym (y .says)) (x .records ∙ sym (y .records))

@@ -11,7 +11,7 @@ ghost use Rattle.settle.specs.Settle.{Settling};
 ghost use Rattle.planning.specs.Planning.{PlansWithin, BoundsWithin};
 ghost use Rattle.jobfile.specs.Calls.{Writes};
 ghost use Rattle.records.specs.Records.{loaded};
-ghost use Rattle.front.specs.Files.{told, whole, blanks, Reads, FileRead};
+ghost use Rattle.front.specs.Files.{told, Reads};
 use jobfile::Read;
 use records::Action;
 use tables::Answer;
@@ -119,39 +119,4 @@ pub fn read_file(file: &[u8], t: &mut [Action]) -> ReadAnswer
     let r = jobfile_read::read_file(file, t.len());
     records::scatter(t, r.table, r.ask.jobs);
     told(r)
-}
-
-// A job file read for a program: what was said, and 255 records, enough for any job count of a file.
-pub struct JobFile {
-    pub said: ReadAnswer,
-    pub records: [Action; 255],
-}
-
-// 255 records of zeros.
-fn blank() -> [Action; 255]
-    ensures { λ r. ⌜ r ≡ blanks ⌝ }
-{
-    let a = Action {
-        conditions: 0,
-        additions: 0,
-        deletions: 0,
-        duration: 0,
-    };
-    [a; 255]
-}
-
-// The two together.
-fn whole(said: ReadAnswer, records: [Action; 255]) -> JobFile
-    ensures { λ r. ⌜ r ≡ whole said records ⌝ }
-{
-    JobFile { said, records }
-}
-
-// Reads a job file for a program that holds its records by value.
-pub fn read_array(file: &[u8]) -> JobFile
-    ensures { λ r. ⌜ FileRead (now (file .entry)) r ⌝ }
-{
-    let mut records = blank();
-    let said = read_file(file, &mut records);
-    whole(said, records)
 }

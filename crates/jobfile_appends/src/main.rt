@@ -1,45 +1,29 @@
 // The writer at its limits; what is printed is compared with an independent program.
 ghost use Prim.Native.Nat.{_+_, _≤_};
 ghost use lib.ListN.{length};
-use libc::STDOUT_FILENO;
-use tables::Answer;
+use front::Save;
+use printing::end_line;
+use printing::show;
+use printing::show_answer;
+use records::Action;
 use tables::Ask;
-use tables::Loaded;
 
-fn show(n: u64) {
-    io::print_decimal(STDOUT_FILENO, n);
-    io::write_all(STDOUT_FILENO, b" ");
-}
-
-fn end_line() {
-    io::write_all(STDOUT_FILENO, b"\n");
-}
-
-fn show_answer(a: Answer) {
-    show(a.number as u64);
-    show(a.place as u64);
-    show(a.value as u64);
-}
-
-fn table(lent: usize) -> Loaded {
-    let mut conditions = [0u64; 24];
-    let mut additions = [0u64; 24];
-    let mut deletions = [0u64; 24];
-    let mut durations = [0u16; 24];
-    conditions[0] = 0x8000_0000_0000_0001;
-    additions[0] = 0x0102_0304_0506_0708;
-    deletions[0] = 0x1020_3040_5060_7080;
-    durations[0] = 300;
-    additions[1] = 1;
-    deletions[1] = 2;
-    durations[1] = 960;
-    Loaded {
-        conditions,
-        additions,
-        deletions,
-        durations,
-        lent,
-    }
+// Two jobs; the records behind them are zeros.
+fn table() -> [Action; 255] {
+    let mut records = by_value::blank();
+    records[0] = Action {
+        conditions: 0x8000_0000_0000_0001,
+        additions: 0x0102_0304_0506_0708,
+        deletions: 0x1020_3040_5060_7080,
+        duration: 300,
+    };
+    records[1] = Action {
+        conditions: 0,
+        additions: 1,
+        deletions: 2,
+        duration: 960,
+    };
+    records
 }
 
 fn ask(jobs: usize, bound: u16) -> Ask {
@@ -64,21 +48,22 @@ fn digest(buf: &[u8]) -> u64 {
 }
 
 // A save appended to so many bytes of a buffer; those behind them are looked at too.
-fn append_in(buf: &mut [u8], l: Loaded, q: Ask, used: usize, size: usize)
+fn append_in(buf: &mut [u8], lent: u8, s: Save, size: usize)
     requires { ⌜ size + 8 ≤ length (now buf) ⌝ }
 {
-    show_answer(jobfile_write::write_file(l, q, used, &mut buf[0..size]));
+    show_answer(by_value::write_file(table(), lent, s, &mut buf[0..size]));
     let end = size + 8;
     show(digest(&buf[0..end]));
     end_line();
 }
 
-fn append(jobs: usize, lent: usize, used: usize, bound: u16, size: usize)
+fn append(jobs: usize, lent: u8, used: usize, bound: u16, size: usize)
     requires { ⌜ size ≤ 65600 ⌝ }
 {
+    let ask = ask(jobs, bound);
     let mut space = [7u8; 65608];
     let buf: &mut [u8] = &mut space;
-    append_in(buf, table(lent), ask(jobs, bound), used, size);
+    append_in(buf, lent, Save { ask, used }, size);
 }
 
 fn appends() {
@@ -94,7 +79,7 @@ fn appends() {
 fn more_appends() {
     append(25, 25, 0, 0, 1000);
     append(25, 24, 0, 0, 1000);
-    append(3000, 3000, 0, 0, 1000);
+    append(3000, 255, 0, 0, 1000);
     append(0, 0, 65512, 0, 65600);
     append(0, 0, 18446744073709551615, 0, 200);
     append(18446744073709551615, 0, 18446744073709551615, 0, 200);

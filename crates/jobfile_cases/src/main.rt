@@ -1,28 +1,13 @@
 // The reader on damaged files; what is printed is compared with an independent program.
-ghost use Prim.Native.Nat.{_+_, _≤_, _<_};
+ghost use Prim.Native.Nat.{_≤_, _<_};
 ghost use lib.ListN.{length};
-use jobfile::Read;
-use libc::STDOUT_FILENO;
-use tables::Answer;
+use printing::end_line;
+use printing::show;
+use printing::show_answer;
+use records::Action;
 use tables::Ask;
-use tables::Loaded;
 
 // ── printing ──
-
-fn show(n: u64) {
-    io::print_decimal(STDOUT_FILENO, n);
-    io::write_all(STDOUT_FILENO, b" ");
-}
-
-fn end_line() {
-    io::write_all(STDOUT_FILENO, b"\n");
-}
-
-fn show_answer(a: Answer) {
-    show(a.number as u64);
-    show(a.place as u64);
-    show(a.value as u64);
-}
 
 fn show_ask(q: Ask) {
     show(q.jobs as u64);
@@ -32,40 +17,71 @@ fn show_ask(q: Ask) {
     show(q.bound as u64);
 }
 
-fn wide(n: u16) -> u64 {
-    n as u64
+fn show_job(a: Action) {
+    show(a.conditions);
+    show(a.additions);
+    show(a.deletions);
+    show(a.duration as u64);
 }
 
-fn show_job(l: Loaded, i: usize)
-    requires { ⌜ i < 24 ⌝ }
-{
-    show(l.conditions[i]);
-    show(l.additions[i]);
-    show(l.deletions[i]);
-    show(wide(l.durations[i]));
-}
-
-// The records of the jobs that were read, and one behind them.
-fn show_jobs(l: Loaded, jobs: usize) {
-    show(l.lent as u64);
+// The first 24 records as far as jobs were read, and one behind them.
+fn show_jobs(records: [Action; 255], jobs: usize) {
     for i in 0..24 {
         if i <= jobs {
-            show_job(l, i);
+            show_job(records[i]);
         }
     }
+}
+
+// A number and the next one mixed into it.
+fn mixed(sum: u64, n: u64) -> u64
+    requires { ⌜ sum < 65521 ⌝ }
+    ensures { λ r. ⌜ r < 65521 ⌝ }
+{
+    (sum * 31 + n % 65521) % 65521
+}
+
+fn mixed_job(sum: u64, a: Action) -> u64
+    requires { ⌜ sum < 65521 ⌝ }
+    ensures { λ r. ⌜ r < 65521 ⌝ }
+{
+    let facts = mixed(mixed(mixed(sum, a.conditions), a.additions), a.deletions);
+    mixed(facts, a.duration as u64)
+}
+
+// All records in one number that tells them and their places apart.
+fn digest(records: [Action; 255]) -> u64 {
+    let mut sum = 1u64;
+    for i in 0..255 {
+        sum = mixed_job(sum, records[i]);
+    }
+    sum
+}
+
+// What is lent: 255 records that are not empty.
+fn lent_records() -> [Action; 255] {
+    let a = Action {
+        conditions: 5,
+        additions: 6,
+        deletions: 7,
+        duration: 8,
+    };
+    [a; 255]
+}
+
+// Reads a file into the first records and prints what is returned, and the records.
+fn look(file: &[u8], room: u8) {
+    let r = by_value::read_file(file, lent_records(), room);
+    let records = r.records;
+    show_answer(r.said.answer);
+    show_ask(r.said.ask);
+    show_jobs(records, r.said.ask.jobs);
+    show(digest(records));
     end_line();
 }
 
-// Reads a file and prints what is returned.
-fn look(file: &[u8], room: usize) {
-    let r = jobfile_read::read_file(file, room);
-    show_answer(r.answer);
-    show_ask(r.ask);
-    show_jobs(r.table, r.ask.jobs);
-}
-
 // The same of the file's first n bytes.
-fn look_first(file: &[u8], n: usize, room: usize) {
+fn look_first(file: &[u8], n: usize, room: u8) {
     if n <= file.len() {
         look(&file[0..n], room);
     }

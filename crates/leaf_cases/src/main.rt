@@ -1,10 +1,13 @@
 // The public functions on the jobs U, at their limits and on bad input; what is printed is compared with an independent program.
-ghost use Prim.Native.Nat.{_≤_};
+ghost use Prim.Native.Nat.{_≤_, _<_};
 ghost use lib.ListN.{length};
 use libc::STDOUT_FILENO;
+use printing::end_line;
+use printing::show;
+use printing::show_answer;
+use records::Action;
 use tables::Answer;
 use tables::Ask;
-use tables::Loaded;
 
 // ── a call as a row of numbers, so that a case is a place and a number ──
 
@@ -103,21 +106,6 @@ const MANY: u64 = 18446744073709551615;
 
 // ── printing ──
 
-fn show(n: u64) {
-    io::print_decimal(STDOUT_FILENO, n);
-    io::write_all(STDOUT_FILENO, b" ");
-}
-
-fn end_line() {
-    io::write_all(STDOUT_FILENO, b"\n");
-}
-
-fn show_answer(a: Answer) {
-    show(a.number as u64);
-    show(a.place as u64);
-    show(a.value as u64);
-}
-
 // The first six numbers, and one number made of all of them by place.
 fn show_numbers(buf: &[u16]) {
     let mut sum = 1u64;
@@ -176,35 +164,29 @@ fn ask(row: [u64; 40]) -> Ask {
     }
 }
 
-// Four numbers of the row, one a job; the table's other records are empty.
-fn four(row: [u64; 40], from: usize) -> [u64; 24]
-    requires { ⌜ from ≤ 28 ⌝ }
+// One of the four jobs.
+fn job(row: [u64; 40], i: usize) -> Action
+    requires { ⌜ i < 4 ⌝ }
 {
-    let mut out = [0u64; 24];
+    Action {
+        conditions: row[CONDITIONS + i],
+        additions: row[ADDITIONS + i],
+        deletions: row[DELETIONS + i],
+        duration: middle(row[DURATIONS + i]),
+    }
+}
+
+// The four jobs; the other records are empty.
+fn table(row: [u64; 40]) -> [Action; 255] {
+    let mut out = by_value::blank();
     for i in 0..4 {
-        out[i] = row[from + i];
+        out[i] = job(row, i);
     }
     out
 }
 
-fn four_middle(row: [u64; 40], from: usize) -> [u16; 24]
-    requires { ⌜ from ≤ 28 ⌝ }
-{
-    let mut out = [0u16; 24];
-    for i in 0..4 {
-        out[i] = middle(row[from + i]);
-    }
-    out
-}
-
-fn table(row: [u64; 40]) -> Loaded {
-    Loaded {
-        conditions: four(row, CONDITIONS),
-        additions: four(row, ADDITIONS),
-        deletions: four(row, DELETIONS),
-        durations: four_middle(row, DURATIONS),
-        lent: row[RECORDS] as usize,
-    }
+fn lent(row: [u64; 40]) -> u8 {
+    small(row[RECORDS])
 }
 
 // The row's starts; all other jobs are out.
@@ -236,28 +218,31 @@ fn odd_ones(out: &mut [u8]) {
 
 fn check(row: [u64; 40], starts: &[u16]) {
     io::write_all(STDOUT_FILENO, b"check ");
-    show_answer(verdict::check_plan(table(row), ask(row), starts));
+    show_answer(by_value::check_plan(table(row), lent(row), ask(row), starts));
     end_line();
 }
 
 // The calls that write numbers and take nothing beside the table: 0 for estimates, 1 for the first plan, else the least bound.
-fn write_numbers(kind: u8, l: Loaded, q: Ask, out: &mut [u16]) -> Answer {
+fn write_numbers(kind: u8, row: [u64; 40], out: &mut [u16]) -> Answer {
+    let t = table(row);
+    let n = lent(row);
+    let q = ask(row);
     if kind == 0 {
         io::write_all(STDOUT_FILENO, b"earliest ");
-        return estimates::earliest(l, q, out);
+        return by_value::earliest(t, n, q, out);
     }
     if kind == 1 {
         io::write_all(STDOUT_FILENO, b"plan ");
-        return planning::plan_within(l, q, out);
+        return by_value::plan_within(t, n, q, out);
     }
     io::write_all(STDOUT_FILENO, b"least ");
-    planning::least_bound(l, q, out)
+    by_value::least_bound(t, n, q, out)
 }
 
 fn numbers_in(kind: u8, row: [u64; 40], buf: &mut [u16], size: usize)
     requires { ⌜ size ≤ length (now buf) ⌝ }
 {
-    show_answer(write_numbers(kind, table(row), ask(row), &mut buf[0..size]));
+    show_answer(write_numbers(kind, row, &mut buf[0..size]));
     show_numbers(buf);
 }
 
@@ -274,7 +259,8 @@ fn settle_in(row: [u64; 40], pairs: &[u8], buf: &mut [u16], size: usize)
     requires { ⌜ size ≤ length (now buf) ⌝ }
 {
     io::write_all(STDOUT_FILENO, b"settle ");
-    show_answer(settle::settle(table(row), ask(row), pairs, &mut buf[0..size]));
+    let t = table(row);
+    show_answer(by_value::settle(t, lent(row), ask(row), pairs, &mut buf[0..size]));
     show_numbers(buf);
 }
 
@@ -302,19 +288,22 @@ fn settling(row: [u64; 40]) {
 }
 
 // Binding pairs, which are shown from byte 0 on; else supports, which are shown from the row of job 1 on.
-fn write_bytes(from: usize, l: Loaded, q: Ask, starts: &[u16], out: &mut [u8]) -> Answer {
+fn write_bytes(from: usize, row: [u64; 40], starts: &[u16], out: &mut [u8]) -> Answer {
+    let t = table(row);
+    let n = lent(row);
+    let q = ask(row);
     if from == 0 {
         io::write_all(STDOUT_FILENO, b"pairs ");
-        return bindings::binding_pairs(l, q, starts, out);
+        return by_value::binding_pairs(t, n, q, starts, out);
     }
     io::write_all(STDOUT_FILENO, b"supports ");
-    bindings::supports(l, q, starts, out)
+    by_value::supports(t, n, q, starts, out)
 }
 
 fn bytes_in(from: usize, row: [u64; 40], starts: &[u16], buf: &mut [u8], size: usize)
     requires { ⌜ size ≤ length (now buf) ⌝ }
 {
-    show_answer(write_bytes(from, table(row), ask(row), starts, &mut buf[0..size]));
+    show_answer(write_bytes(from, row, starts, &mut buf[0..size]));
     show_bytes(buf, from);
 }
 

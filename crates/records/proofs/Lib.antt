@@ -1,4 +1,3 @@
 pub mod Laws
 pub mod Lies
 pub mod Only
-pub mod Arrays

@@ -7,7 +7,7 @@ use Rattle.tables.specs.declared.Loaded.{Loaded}
 use Rattle.records.specs.declared.Action.{Action}
 use Rattle.records.specs.Records.{loaded, placed}
 
--- load, load_array
+-- load
 pub load-only : (ts : List Action) (r s : Loaded) → r ≡ loaded ts → s ≡ loaded ts → r ≡ s
 load-only ts r s x y = x ∙ sym y
 

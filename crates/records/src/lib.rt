@@ -91,10 +91,3 @@ pub fn scatter(t: &mut [Action], l: Loaded, n: usize)
         i = i + 1;
     }
 }
-
-// The same table for a program that holds its records by value.
-pub fn load_array(records: [Action; 255]) -> Loaded
-    ensures { λ r. ⌜ r ≡ loaded records ⌝ }
-{
-    load(&records)
-}

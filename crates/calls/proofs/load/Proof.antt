@@ -4,16 +4,22 @@ use Rattle.calls.proofs.load.Statement.{statement}
 use Rattle.calls.proofs.load.Tie as tie
 
 abbrev Inv-loop : tie.InvT-loop
-Inv-loop records lent l₀ i₀ l i = i ≤ 24
+Inv-loop bytes n h₀ i₀ h i = i ≤ 255
 
 abbrev μ-loop : tie.MeasureT-loop
-μ-loop records lent l₀ i₀ l i = 24 - i
+μ-loop bytes n h₀ i₀ h i = 255 - i
+
+cast-no-records : tie.Need-cast-no-records Inv-loop μ-loop
+cast-no-records c = search needs
 
 no-records-requires : tie.Need-no-records-requires Inv-loop μ-loop
 no-records-requires c κs = search needs
 
 loop-holds : tie.Need-loop-holds Inv-loop μ-loop
 loop-holds c = search needs
+
+record-in-requires : tie.Need-record-in-requires Inv-loop μ-loop
+record-in-requires c κs = search needs
 
 with-record-requires : tie.Need-with-record-requires Inv-loop μ-loop
 with-record-requires c κs = search needs
@@ -36,8 +42,10 @@ load-spec =
     (tie.spec
     Inv-loop
     μ-loop
+    cast-no-records
     no-records-requires
     loop-holds
+    record-in-requires
     with-record-requires
     add-i
     loop-less

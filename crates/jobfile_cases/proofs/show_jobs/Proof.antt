@@ -1,19 +1,22 @@
+use Prim.Native.Nat.{_-_}
 use borrow.Author.Needs.{needs}
-use Prim.Native.Nat.{_≤_, _-_}
 use Rattle.jobfile_cases.proofs.show_jobs.Statement.{statement}
 use Rattle.jobfile_cases.proofs.show_jobs.Tie as tie
 
 abbrev Inv-loop : tie.InvT-loop
-Inv-loop l jobs i₀ i = i ≤ 24
+Inv-loop jobs records i₀ i = Unit {0}
 
 abbrev μ-loop : tie.MeasureT-loop
-μ-loop l jobs i₀ i = 24 - i
-
-show-requires : tie.Need-show-requires Inv-loop μ-loop
-show-requires c κs = search needs
+μ-loop jobs records i₀ i = 24 - i
 
 loop-holds : tie.Need-loop-holds Inv-loop μ-loop
 loop-holds c = search needs
+
+mul-show-job : tie.Need-mul-show-job Inv-loop μ-loop
+mul-show-job c = search needs
+
+array-copy-out-show-job : tie.Need-array-copy-out-show-job Inv-loop μ-loop
+array-copy-out-show-job c = search needs
 
 show-job-requires : tie.Need-show-job-requires Inv-loop μ-loop
 show-job-requires c κs = search needs
@@ -27,9 +30,6 @@ loop-less c = search needs
 loop-again : tie.Need-loop-again Inv-loop μ-loop
 loop-again c = search needs
 
-end-line-requires : tie.Need-end-line-requires Inv-loop μ-loop
-end-line-requires c κs = search needs
-
 returns : tie.Need-returns Inv-loop μ-loop
 returns c = search needs
 
@@ -39,11 +39,11 @@ show-jobs-spec =
     (tie.spec
     Inv-loop
     μ-loop
-    show-requires
     loop-holds
+    mul-show-job
+    array-copy-out-show-job
     show-job-requires
     add-i
     loop-less
     loop-again
-    end-line-requires
     returns)

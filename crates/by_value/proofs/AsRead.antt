@@ -22,10 +22,10 @@ use Rattle.records.specs.declared.Action.{Action}
 use Rattle.records.specs.Records.{noRecord, loaded, recordOf, placed}
 use Rattle.records.proofs.Laws.{length-placed}
 use Rattle.records.proofs.Lies.{loaded-at, placed-at, placed-rest}
 use Rattle.front.specs.declared.ReadAnswer.{ReadAnswer}
-use Rattle.front.specs.declared.JobFile.{JobFile}
-use Rattle.front.specs.Files.{blanks, FileRead}
 use Rattle.front.proofs.Fits.{reading-fits, reading-says}
+use Rattle.by_value.specs.declared.JobFile.{JobFile}
+use Rattle.by_value.specs.Files.{blanks, FileRead}
 
 -- 24 zeros of which the first n are filled
 abbrev column : (ℕ → ℕ) → ℕ → List ℕ
