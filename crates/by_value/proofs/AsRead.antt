@@ -13,7 +13,7 @@ use Rattle.rules.specs.Refusals.{Verdict}
 use Rattle.tables.specs.declared.Loaded.{Loaded}
 use Rattle.tables.specs.declared.Ask.{Ask}
 use Rattle.tables.specs.declared.Answer.{Answer}
-use Rattle.tables.specs.Tables.{answer, filled}
+use Rattle.tables.specs.Tables.{answer, column}
 use Rattle.tables.proofs.Lent.{length-filled, filled-rest}
 use Rattle.jobfile.specs.declared.Read.{Read}
 use Rattle.jobfile.specs.Format.{trailerIn, askIn, recordsIn, field, tableIn}
@@ -26,10 +26,6 @@ use Rattle.front.specs.declared.ReadAnswer.{ReadAnswer}
 use Rattle.front.proofs.Fits.{reading-fits, reading-says}
 use Rattle.by_value.specs.declared.JobFile.{JobFile}
 use Rattle.by_value.specs.Files.{blanks, FileRead}
-
--- 24 zeros of which the first n are filled
-abbrev column : (ℕ → ℕ) → ℕ → List ℕ
-column f n = filled f n (replicate 24 0)
 
 long : (f : ℕ → ℕ) (n : ℕ) → length (column f n) ≡ 24
 long f n = length-filled f n (replicate 24 0) ∙ length-replicate {A = ℕ} 24 0

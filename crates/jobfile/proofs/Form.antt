@@ -15,12 +15,13 @@ use Rattle.rules.specs.Refusals.{Verdict, accepted}
 use Rattle.rules.proofs.Refused.{if-zero}
 use Rattle.tables.specs.declared.Loaded.{Loaded}
 use Rattle.tables.specs.declared.Ask.{Ask}
+use Rattle.tables.specs.Tables.{column}
 use Rattle.tables.proofs.Lent.{filled-at}
 use Rattle.bytes_le.specs.Little.{number, Bytes}
 use Rattle.bytes_le.proofs.Stands.{Stands, stands-both, stands-all, bytes-take, bytes-drop}
 use Rattle.bytes_le.proofs.Fields.{found-fields}
 use Rattle.jobfile.specs.declared.Read.{Read}
-use Rattle.jobfile.specs.Format.{recordFields, recordOf, recordsOf, trailerFields, trailerOf, saveOf, trailerAt, trailerIn, askIn, distanceIn, tooFar, recordsIn, spoilt, field, column, tableIn}
+use Rattle.jobfile.specs.Format.{recordFields, recordOf, recordsOf, trailerFields, trailerOf, saveOf, trailerAt, trailerIn, askIn, distanceIn, tooFar, recordsIn, spoilt, field, tableIn}
 use Rattle.jobfile.specs.Calls.{readChecks, saveChecks, taken, reading}
 use Rattle.jobfile.proofs.Checks.{at-most, any-test, problem-count}
 use Rattle.jobfile.proofs.Saves.{length-records, length-trailer}
@@ -78,12 +79,12 @@ module _ (file : List ℕ) (room : ℕ) (bytes : Bytes file) (f : Fine file) (ex
       first = trailerAt file - distanceIn (trailerIn file)
 
       at : (size off : ℕ) → ℕ
-      at size off = getD (column size (recordsIn file) (min (askOf file .jobs) 24) off) i 0
+      at size off = getD (column (field size (recordsIn file) off) (min (askOf file .jobs) 24)) i 0
 
       within : i < 24
       within = omega (arith, f .count)
 
-      held : (size off : ℕ) → field size (recordsIn file) off i ≡ getD (column size (recordsIn file) (min (askOf file .jobs) 24) off) i 0
+      held : (size off : ℕ) → field size (recordsIn file) off i ≡ getD (column (field size (recordsIn file) off) (min (askOf file .jobs) 24)) i 0
       held size off = sym (filled-at (field size (recordsIn file) off) (min (askOf file .jobs) 24) (replicate 24 0) i 0 (omega (arith, f .count)) within)
 
       zeros : number 6 (recordsIn file) (32 * i + 26) ≡ 0

@@ -12,7 +12,7 @@ use Rattle.rules.specs.Table.{boundCheck}
 use Rattle.tables.specs.declared.Loaded.{Loaded}
 use Rattle.tables.specs.declared.Ask.{Ask}
 use Rattle.tables.specs.declared.Answer.{Answer}
-use Rattle.tables.specs.Tables.{answer, changed, callChecks, filled}
+use Rattle.tables.specs.Tables.{answer, changed, callChecks, filled, noJobs}
 use Rattle.bytes_le.specs.Little.{laid}
 use Rattle.jobfile.specs.declared.Read.{Read}
 use Rattle.jobfile.specs.Format.{saveOf, lengthAfter, trailerAt, trailerIn, askIn, distanceIn, tooFar, recordsIn, spoilt, tableIn}
@@ -41,23 +41,13 @@ readChecks file room = refuseIf (ltb 65536 (length file)) 1 0 (refuseIf (ltb (le
 abbrev pub noAsk : Ask
 noAsk = record { jobs = 0; atoms = 0; opening = 0; goals = 0; bound = 0; set = 0; pairs = 0 }
 
--- no records
-abbrev pub noTable : Loaded
-noTable = record {
-  conditions = replicate 24 0;
-  additions = replicate 24 0;
-  deletions = replicate 24 0;
-  durations = replicate 24 0;
-  lent = 0;
-}
-
 -- the answer with the numbers and the records
 abbrev pub whole : Answer → Ask → Loaded → Read
 whole a q l = record { answer = a; ask = q; table = l }
 
 -- what is returned on refusal
 abbrev pub nothing : Answer → Read
-nothing a = whole a noAsk noTable
+nothing a = whole a noAsk (noJobs 0)
 
 -- what is returned where the checks say v: the numbers and records where they accept
 abbrev pub given : Verdict → Ask → Loaded → Read

@@ -4,11 +4,11 @@ use mathlib.Core.Bool.{Bool, not, _||_}
 use mathlib.Core.List.{List, [], _∷_, _++_}
 use Prim.Native.Nat.{ℕ, zero, suc, _+_, _-_, _*_, min}
 use lib.Dec.{eqb, ltb}
-use lib.ListN.{length, getD, take, drop, replicate}
+use lib.ListN.{length, getD, take, drop}
 use Rattle.facts.specs.Least.{any}
 use Rattle.tables.specs.declared.Loaded.{Loaded}
 use Rattle.tables.specs.declared.Ask.{Ask}
-use Rattle.tables.specs.Tables.{filled}
+use Rattle.tables.specs.Tables.{tabled}
 use Rattle.bytes_le.specs.Little.{number, fields}
 
 -- ── writing ──
@@ -76,13 +76,9 @@ spoilt rs i = any (λ j. not (eqb (getD rs (32 * i + 26 + j) 0) 0)) 6
 abbrev pub field : (size : ℕ) → List ℕ → (at i : ℕ) → ℕ
 field size rs at i = number size rs (32 * i + at)
 
--- the same of each of the first n records; 0 behind them
-abbrev pub column : (size : ℕ) → List ℕ → (n at : ℕ) → List ℕ
-column size rs n at = filled (field size rs at) n (replicate 24 0)
-
 -- the first n records, as a caller that lends `room` records gets them
 abbrev pub firstOf : List ℕ → (n room : ℕ) → Loaded
-firstOf rs n room = record { conditions = column 8 rs n 0; additions = column 8 rs n 8; deletions = column 8 rs n 16; durations = column 2 rs n 24; lent = room }
+firstOf rs n room = tabled (field 8 rs 0) (field 8 rs 8) (field 8 rs 16) (field 2 rs 24) n room
 
 -- a table by value holds the first 24
 abbrev pub tableIn : List ℕ → (jobs room : ℕ) → Loaded

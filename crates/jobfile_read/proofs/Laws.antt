@@ -18,10 +18,11 @@ use Rattle.rules.proofs.Refused.{if-hit, if-pass}
 use Rattle.tables.specs.declared.Loaded.{Loaded}
 use Rattle.tables.specs.declared.Ask.{Ask}
 use Rattle.tables.specs.declared.Answer.{Answer}
-use Rattle.tables.specs.Tables.{answer, filled}
+use Rattle.tables.specs.Tables.{answer}
 use Rattle.tables.proofs.Laws.{said}
+use Rattle.tables.proofs.Lent.{one-tabled}
 use Rattle.jobfile.specs.declared.Read.{Read}
-use Rattle.jobfile.specs.Format.{firstOf, trailerAt, trailerIn, askIn, distanceIn, tooFar, recordsIn, tableIn}
+use Rattle.jobfile.specs.Format.{field, firstOf, trailerAt, trailerIn, askIn, distanceIn, tooFar, recordsIn, tableIn}
 use Rattle.jobfile.specs.Calls.{recordChecks, saveChecks, nothing, whole, given, taken}
 use Rattle.jobfile_read.specs.Steps.{withRecord}
 
@@ -29,8 +30,7 @@ pub any-none : (f : ℕ → Bool) (n : ℕ) → ((i : ℕ) → i < n → T (f i)
 any-none f n h = same false (any f n) (λ x. absurd x) (λ x. let y = any-at f n x in h (y .0) (y .1) (y .2))
 
 pub first-more : (rs : List ℕ) (k room : ℕ) → withRecord (firstOf rs k room) rs k ≡ firstOf rs (k + 1) room
-unfolding filled
-first-more rs k room = ap (λ (n : ℕ). firstOf rs n room) (sym (add-one k))
+first-more rs k room = one-tabled (field 8 rs 0) (field 8 rs 8) (field 8 rs 16) (field 2 rs 24) room k ∙ ap (λ (n : ℕ). firstOf rs n room) (sym (add-one k))
 
 -- ── what is returned ──
 

@@ -1,7 +1,6 @@
 // The reader of job files.
 ghost use mathlib.Core.Path.{_≡_};
-ghost use mathlib.Core.List.{[]};
-ghost use Prim.Native.Nat.{_+_, _*_, _≤_, _<_, min};
+ghost use Prim.Native.Nat.{_+_, _*_, _≤_, _<_};
 ghost use lib.ListN.{length};
 ghost use Rattle.facts.specs.Least.{any};
 ghost use Rattle.tables.specs.Tables.{Tests};
@@ -35,33 +34,17 @@ fn any_spoilt(records: &[u8], n: usize) -> bool
     false
 }
 
-// A table with no records, as lent.
-fn empty(room: usize) -> Loaded
-    ensures { λ r. ⌜ r ≡ firstOf [] 0 room ⌝ }
-{
-    let words = [0u64; 24];
-    let durations = [0u16; 24];
-    Loaded {
-        conditions: words,
-        additions: words,
-        deletions: words,
-        durations,
-        lent: room,
-    }
-}
-
 // Record i taken into the table.
 fn with_record(l: Loaded, records: &[u8], i: usize) -> Loaded
     requires { ⌜ (i < 24) × (32 * i + 32 ≤ length (now records)) ⌝ }
     ensures { λ r. ⌜ r ≡ withRecord l (now (records .entry)) i ⌝ }
 {
     let at = 32 * i;
-    let mut t = l;
-    t.conditions[i] = number(records, at, 8);
-    t.additions[i] = number(records, at + 8, 8);
-    t.deletions[i] = number(records, at + 16, 8);
-    t.durations[i] = number(records, at + 24, 2) as u16;
-    t
+    let c = number(records, at, 8);
+    let a = number(records, at + 8, 8);
+    let d = number(records, at + 16, 8);
+    let duration = number(records, at + 24, 2) as u16;
+    tables::with_job(l, i, c, a, d, duration)
 }
 
 // The first n records.
@@ -69,18 +52,11 @@ fn first_records(records: &[u8], n: usize, room: usize) -> Loaded
     requires { ⌜ (n ≤ 24) × (32 * n ≤ length (now records)) ⌝ }
     ensures { λ r. ⌜ r ≡ firstOf (now (records .entry)) n room ⌝ }
 {
-    let mut l = empty(room);
+    let mut l = tables::no_jobs(room);
     for i in 0..n {
         l = with_record(l, records, i);
     }
     l
-}
-
-// The smaller of two numbers.
-fn at_most(n: usize, most: usize) -> usize
-    ensures { λ r. ⌜ r ≡ min n most ⌝ }
-{
-    if n < most { n } else { most }
 }
 
 // The numbers of the trailer.
@@ -120,7 +96,7 @@ fn nothing(a: Answer) -> Read
         set: 0,
         pairs: 0,
     };
-    let table = empty(0);
+    let table = tables::no_jobs(0);
     Read {
         answer: a,
         ask,
@@ -137,7 +113,7 @@ fn read_records(records: &[u8], q: Ask, room: usize) -> Read
     if any_spoilt(records, jobs) {
         return nothing(tables::refuse(2, 0, 0));
     }
-    let l = first_records(records, at_most(jobs, 24), room);
+    let l = first_records(records, tables::held(jobs), room);
     let a = jobfile::problem_fault(l, q, false);
     if a.number != 0 {
         return nothing(a);

@@ -1,14 +1,13 @@
--- What one turn of `load` and of `scatter` changes, and how much room a place takes.
+-- What one turn of `scatter` changes, and how much room a place takes.
 -- Assumes nothing.
 use mathlib.Core.Path.{_≡_, refl, _∙_}
-use mathlib.Core.List.{List, []}
+use mathlib.Core.List.{List}
 use Prim.Native.Nat.{ℕ, zero, suc, _*_, _<_, _≤_, _^_, min}
 use native.Mathlib.Omega.{arith}
 use lib.ListN.{length, set, length-set}
 use Rattle.tables.specs.declared.Loaded.{Loaded}
-use Rattle.tables.specs.Tables.{filled}
 use Rattle.records.specs.declared.Action.{Action}
-use Rattle.records.specs.Records.{recordAt, firstOf, withRecord, recordOf, placed}
+use Rattle.records.specs.Records.{recordOf, placed}
 
 -- a place in a slice of records is a usize
 pub in-room : (i n : ℕ) → i < n → n * 32 < 2 ^ 63 → i * 32 < 2 ^ 64
@@ -17,16 +16,6 @@ in-room i n l r = omega arith
 -- as many records are taken as were lent, up to 24
 pub few : (k n : ℕ) → n ≡ min k 24 → (n ≤ 24) × (n ≤ k)
 few k n e = (omega arith, omega arith)
-
--- ── taken into a table ──
-
-pub none-taken : (ts : List Action) (lent : ℕ) → firstOf [] 0 lent ≡ firstOf ts 0 lent
-unfolding filled
-none-taken ts lent = refl
-
-pub one-taken : (ts : List Action) (i lent : ℕ) → withRecord (firstOf ts i lent) i (recordAt ts i) ≡ firstOf ts (suc i) lent
-unfolding filled
-one-taken ts i lent = refl
 
 -- ── placed in the slice ──
 

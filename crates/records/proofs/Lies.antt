@@ -10,19 +10,20 @@ use lib.ListN.{length, getD, set, replicate, length-replicate, getD-replicate, L
 use lib.Seq.{getD-set-same, getD-set-other}
 use Rattle.facts.proofs.Bools.{below-suc}
 use Rattle.tables.specs.declared.Loaded.{Loaded}
+use Rattle.tables.specs.Tables.{column}
 use Rattle.tables.proofs.Lent.{filled-at, filled-rest}
 use Rattle.records.specs.declared.Action.{Action}
-use Rattle.records.specs.Records.{noRecord, recordAt, column, loaded, recordOf, placed}
+use Rattle.records.specs.Records.{noRecord, recordAt, loaded, recordOf, placed}
 use Rattle.records.proofs.Laws.{length-placed}
 
 -- each of the first 24 entries of a column is the field of the record at that place, 0 where none lies
-column-at : (field : Action → ℕ) → field noRecord ≡ 0 → (ts : List Action) (i : ℕ) → i < 24 → getD (column field ts (min (length ts) 24)) i 0 ≡ field (recordAt ts i)
+column-at : (field : Action → ℕ) → field noRecord ≡ 0 → (ts : List Action) (i : ℕ) → i < 24 → getD (column (λ j. field (recordAt ts j)) (min (length ts) 24)) i 0 ≡ field (recordAt ts i)
 column-at field z ts i l = go (decLt i (length ts))
   where
     long : length {A = ℕ} (replicate 24 0) ≡ 24
     long = length-replicate {A = ℕ} 24 0
 
-    go : Dec (i < length ts) → getD (column field ts (min (length ts) 24)) i 0 ≡ field (recordAt ts i)
+    go : Dec (i < length ts) → getD (column (λ j. field (recordAt ts j)) (min (length ts) 24)) i 0 ≡ field (recordAt ts i)
     go (yes h) = filled-at (λ j. field (recordAt ts j)) (min (length ts) 24) (replicate 24 0) i 0 (omega arith) (omega (arith, long))
     go (no h) =
         filled-rest (λ j. field (recordAt ts j)) (min (length ts) 24) (replicate 24 0) i 0 (omega arith)

@@ -2,9 +2,9 @@
 -- Assumes nothing.
 use mathlib.Core.List.{List}
 use Prim.Native.Nat.{ℕ, zero, suc, min}
-use lib.ListN.{length, getD, set, replicate}
+use lib.ListN.{length, getD, set}
 use Rattle.tables.specs.declared.Loaded.{Loaded}
-use Rattle.tables.specs.Tables.{filled}
+use Rattle.tables.specs.Tables.{tabled, withJob}
 use Rattle.records.specs.declared.Action.{Action}
 
 -- what stands for a record where none lies
@@ -15,19 +15,9 @@ noRecord = record { conditions = 0; additions = 0; deletions = 0; duration = 0 }
 abbrev pub recordAt : List Action → ℕ → Action
 recordAt ts i = getD ts i noRecord
 
--- one field of each of the first n records; 0 behind them
-abbrev pub column : (Action → ℕ) → List Action → (n : ℕ) → List ℕ
-column field ts n = filled (λ i. field (recordAt ts i)) n (replicate 24 0)
-
--- the first n records field by field, where `lent` were lent
+-- the table by value of the first n records, where `lent` were lent
 abbrev pub firstOf : List Action → (n lent : ℕ) → Loaded
-firstOf ts n lent = record {
-  conditions = column (λ a. a .conditions) ts n;
-  additions = column (λ a. a .additions) ts n;
-  deletions = column (λ a. a .deletions) ts n;
-  durations = column (λ a. a .duration) ts n;
-  lent = lent;
-}
+firstOf ts n lent = tabled (λ i. recordAt ts i .conditions) (λ i. recordAt ts i .additions) (λ i. recordAt ts i .deletions) (λ i. recordAt ts i .duration) n lent
 
 -- the table by value of the lent records ts: the first 24, and how many were lent
 abbrev pub loaded : List Action → Loaded
@@ -35,13 +25,7 @@ loaded ts = firstOf ts (min (length ts) 24) (length ts)
 
 -- the record becomes job i
 abbrev pub withRecord : Loaded → ℕ → Action → Loaded
-withRecord l i a = record {
-  conditions = set (l .conditions) i (a .conditions);
-  additions = set (l .additions) i (a .additions);
-  deletions = set (l .deletions) i (a .deletions);
-  durations = set (l .durations) i (a .duration);
-  lent = l .lent;
-}
+withRecord l i a = withJob l i (a .conditions) (a .additions) (a .deletions) (a .duration)
 
 -- job i as a record
 abbrev pub recordOf : Loaded → ℕ → Action

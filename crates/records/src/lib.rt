@@ -1,9 +1,8 @@
 // The caller's lent table of job records: taken into a table by value, and filled from one.
 ghost use mathlib.Core.Path.{_≡_};
-ghost use Prim.Native.Nat.{_≤_, _<_, min};
-ghost use mathlib.Core.List.{[]};
+ghost use Prim.Native.Nat.{_≤_, _<_};
 ghost use lib.ListN.{length};
-ghost use Rattle.records.specs.Records.{loaded, firstOf, withRecord, recordOf, placed};
+ghost use Rattle.records.specs.Records.{loaded, withRecord, recordOf, placed};
 use tables::Loaded;
 
 // A job as the caller keeps it.
@@ -15,39 +14,12 @@ pub struct Action {
     pub duration: u16,
 }
 
-// How many of the lent records a table by value holds.
-fn held(lent: usize) -> usize
-    ensures { λ r. ⌜ r ≡ min lent 24 ⌝ }
-{
-    if lent < 24 { lent } else { 24 }
-}
-
-// A table by value before any record is taken.
-fn empty(lent: usize) -> Loaded
-    ensures { λ r. ⌜ r ≡ firstOf [] 0 lent ⌝ }
-{
-    let words = [0u64; 24];
-    let durations = [0u16; 24];
-    Loaded {
-        conditions: words,
-        additions: words,
-        deletions: words,
-        durations,
-        lent,
-    }
-}
-
 // The record becomes job i.
 fn with_record(l: Loaded, i: usize, a: Action) -> Loaded
     requires { ⌜ i < 24 ⌝ }
     ensures { λ r. ⌜ r ≡ withRecord l i a ⌝ }
 {
-    let mut t = l;
-    t.conditions[i] = a.conditions;
-    t.additions[i] = a.additions;
-    t.deletions[i] = a.deletions;
-    t.durations[i] = a.duration;
-    t
+    tables::with_job(l, i, a.conditions, a.additions, a.deletions, a.duration)
 }
 
 // The first 24 lent records field by field, and how many were lent.
@@ -55,8 +27,8 @@ pub fn load(t: &[Action]) -> Loaded
     ensures { λ r. ⌜ r ≡ loaded (now (t .entry)) ⌝ }
 {
     let lent = t.len();
-    let n = held(lent);
-    let mut l = empty(lent);
+    let n = tables::held(lent);
+    let mut l = tables::no_jobs(lent);
     let mut i = 0;
     while i < n {
         let a = t[i];

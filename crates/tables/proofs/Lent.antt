@@ -9,7 +9,8 @@ use native.Mathlib.Numerals.{add-one}
 use lib.ListN.{length, getD, set, length-set}
 use lib.Seq.{getD-set-same, getD-set-other}
 use Rattle.facts.proofs.Bools.{below-suc}
-use Rattle.tables.specs.Tables.{filled}
+use Rattle.tables.specs.declared.Loaded.{Loaded}
+use Rattle.tables.specs.Tables.{filled, tabled, noJobs, withJob}
 
 pub length-filled : (f : ℕ → ℕ) (n : ℕ) (xs : List ℕ) → length (filled f n xs) ≡ length xs
 unfolding filled
@@ -40,3 +41,14 @@ pub filled-rest : (f : ℕ → ℕ) (n : ℕ) (xs : List ℕ) (i d : ℕ) → n 
 unfolding filled
 filled-rest f zero xs i d l = refl
 filled-rest f (suc k) xs i d l = getD-set-other (filled f k xs) k i (f k) d (λ e. omega arith) ∙ filled-rest f k xs i d (omega arith)
+
+-- ── a table by value, job by job ──
+
+module _ (c a d t : ℕ → ℕ) (lent : ℕ) where
+  pub none-tabled : noJobs lent ≡ tabled c a d t 0 lent
+  unfolding filled
+  none-tabled = refl
+
+  pub one-tabled : (i : ℕ) → withJob (tabled c a d t i lent) i (c i) (a i) (d i) (t i) ≡ tabled c a d t (suc i) lent
+  unfolding filled
+  one-tabled i = refl

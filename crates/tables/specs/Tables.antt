@@ -5,7 +5,7 @@ use mathlib.Core.Bool.{Bool, false, _||_, cond}
 use mathlib.Core.List.{List}
 use Prim.Native.Nat.{ℕ, zero, suc}
 use lib.Dec.{eqb, ltb}
-use lib.ListN.{set}
+use lib.ListN.{set, replicate}
 use Rattle.rules.specs.Refusals.{Verdict, refuseIf}
 use Rattle.rules.specs.Table.{Problem, listed, tableChecks}
 use Rattle.tables.specs.declared.Loaded.{Loaded}
@@ -24,6 +24,28 @@ answer v yea nay = record { number = v .number; place = v .place; value = cond (
 unfoldable pub filled : (ℕ → ℕ) → ℕ → List ℕ → List ℕ
 filled f zero xs = xs
 filled f (suc k) xs = set (filled f k xs) k (f k)
+
+-- 24 numbers of which the first n are f 0, f 1, ..; 0 behind them
+abbrev pub column : (ℕ → ℕ) → ℕ → List ℕ
+column f n = filled f n (replicate 24 0)
+
+-- the table by value of the jobs 0 to n - 1, where `lent` records were lent; zeros behind them
+abbrev pub tabled : (conditions additions deletions duration : ℕ → ℕ) (n lent : ℕ) → Loaded
+tabled c a d t n lent = record { conditions = column c n; additions = column a n; deletions = column d n; durations = column t n; lent = lent }
+
+-- the table by value without jobs
+abbrev pub noJobs : (lent : ℕ) → Loaded
+noJobs lent = record { conditions = replicate 24 0; additions = replicate 24 0; deletions = replicate 24 0; durations = replicate 24 0; lent = lent }
+
+-- the table with another job i
+abbrev pub withJob : Loaded → (i conditions additions deletions duration : ℕ) → Loaded
+withJob l i c a d t = record {
+  conditions = set (l .conditions) i c;
+  additions = set (l .additions) i a;
+  deletions = set (l .deletions) i d;
+  durations = set (l .durations) i t;
+  lent = l .lent;
+}
 
 -- what a lent table holds after the call: changed where the verdict accepts, else as it was
 abbrev pub changed : Verdict → (new old : List ℕ) → List ℕ

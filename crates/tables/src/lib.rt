@@ -1,12 +1,12 @@
 // The table of jobs by value, and its checks.
 ghost use mathlib.Core.Path.{_≡_};
 ghost use mathlib.Core.Bool.{not, _||_};
-ghost use Prim.Native.Nat.{_≤_, _<_};
+ghost use Prim.Native.Nat.{_≤_, _<_, min};
 ghost use lib.Dec.{ltb};
 ghost use Rattle.facts.specs.Least.{least};
 ghost use Rattle.rules.specs.Refusals.{accepted, refused};
 ghost use Rattle.rules.specs.Table.{between, strays, jobStrays, undoes, jobChecks, InOrder};
-ghost use Rattle.tables.specs.Tables.{problem, answer, callChecks, Judges};
+ghost use Rattle.tables.specs.Tables.{problem, answer, noJobs, withJob, callChecks, Judges};
 
 // The first 24 records that were lent, field by field, and how many were lent.
 pub struct Loaded {
@@ -15,6 +15,41 @@ pub struct Loaded {
     pub deletions: [u64; 24],
     pub durations: [u16; 24],
     pub lent: usize,
+}
+
+// How many of so many jobs a table by value holds.
+pub fn held(jobs: usize) -> usize
+    ensures { λ r. ⌜ r ≡ min jobs 24 ⌝ }
+{
+    if jobs < 24 { jobs } else { 24 }
+}
+
+// A table by value without jobs.
+pub fn no_jobs(lent: usize) -> Loaded
+    ensures { λ r. ⌜ r ≡ noJobs lent ⌝ }
+{
+    let words = [0u64; 24];
+    let durations = [0u16; 24];
+    Loaded {
+        conditions: words,
+        additions: words,
+        deletions: words,
+        durations,
+        lent,
+    }
+}
+
+// The table with another job i.
+pub fn with_job(l: Loaded, i: usize, c: u64, a: u64, d: u64, duration: u16) -> Loaded
+    requires { ⌜ i < 24 ⌝ }
+    ensures { λ r. ⌜ r ≡ withJob l i c a d duration ⌝ }
+{
+    let mut t = l;
+    t.conditions[i] = c;
+    t.additions[i] = a;
+    t.deletions[i] = d;
+    t.durations[i] = duration;
+    t
 }
 
 // The numbers that a call is made with; set and pairs are settling's.

@@ -3,7 +3,7 @@ use native.Mathlib.Omega.{arith}
 use borrow.Author.Needs.{needs}
 use Prim.Native.Nat.{ℕ, _-_, _≤_}
 use Rattle.tables.specs.declared.Loaded.{Loaded}
-use Rattle.tables.specs.Tables.{filled}
+use Rattle.tables.proofs.Lent.{none-tabled}
 use Rattle.jobfile.specs.Format.{firstOf}
 use Rattle.jobfile_read.specs.Steps.{withRecord}
 use Rattle.jobfile_read.proofs.Laws.{first-more}
@@ -16,12 +16,11 @@ Inv-loop records n room l₀ i₀ l i = (i ≤ n) × (l ≡ firstOf records i ro
 abbrev μ-loop : tie.MeasureT-loop
 μ-loop records n room l₀ i₀ l i = n - i
 
-empty-requires : tie.Need-empty-requires Inv-loop μ-loop
-empty-requires c κs = search needs
+no-jobs-requires : tie.Need-no-jobs-requires Inv-loop μ-loop
+no-jobs-requires c κs = search needs
 
 loop-holds : tie.Need-loop-holds Inv-loop μ-loop
-unfolding filled
-loop-holds c = (omega arith, c .empty .ensures)
+loop-holds c = (omega arith, c .no-jobs .ensures ∙ none-tabled _ _ _ _ _)
 
 with-record-requires : tie.Need-with-record-requires Inv-loop μ-loop
 with-record-requires c κs = omega arith
@@ -46,7 +45,7 @@ first-records-spec =
     (tie.spec
     Inv-loop
     μ-loop
-    empty-requires
+    no-jobs-requires
     loop-holds
     with-record-requires
     add-i

@@ -1,17 +1,15 @@
 use mathlib.Core.Path.{ap}
-use Rattle.tables.specs.Tables.{filled}
 use Rattle.tables.specs.declared.Loaded.{Loaded}
 use Rattle.jobfile.specs.Calls.{whole, noAsk}
 use borrow.Author.Needs.{needs}
 use Rattle.jobfile_read.proofs.nothing.Statement.{statement}
 use Rattle.jobfile_read.proofs.nothing.Tie as tie
 
-empty-requires : tie.Need-empty-requires
-empty-requires c κs = search needs
+no-jobs-requires : tie.Need-no-jobs-requires
+no-jobs-requires c κs = search needs
 
 returns : tie.Need-returns
-unfolding filled
-returns c = ap (λ (l : Loaded). whole (c .before .args .a) noAsk l) (c .empty .ensures)
+returns c = ap (λ (l : Loaded). whole (c .before .args .a) noAsk l) (c .no-jobs .ensures)
 
 pub nothing-spec : {M : Type 1} → statement M
-nothing-spec = tie.close (tie.spec empty-requires returns)
+nothing-spec = tie.close (tie.spec no-jobs-requires returns)

@@ -17,7 +17,7 @@ use Rattle.jobfile_read.proofs.read_records.Tie as tie
 
 -- the table is that of the records, and the checks of the problem are made on it
 table-is : (c : tie.After-first-records) → c .first-records .result ≡ tableIn (c .before .before .before .before .before .args .records .now) (c .before .before .before .before .before .args .q .jobs) (c .before .before .before .before .before .args .room)
-table-is c = c .first-records .ensures ∙ ap (λ (k : ℕ). firstOf (c .before .before .before .before .before .args .records .now) k (c .before .before .before .before .before .args .room)) (c .before .at-most .ensures)
+table-is c = c .first-records .ensures ∙ ap (λ (k : ℕ). firstOf (c .before .before .before .before .before .args .records .now) k (c .before .before .before .before .before .args .room)) (c .before .held .ensures)
 
 says : (c : tie.After-problem-fault)
     → c .problem-fault .result ≡ answer (recordChecks (c .before .before .before .before .before .before .args .records .now) (c .before .before .before .before .before .before .args .q) (c .before .before .before .before .before .before .args .room)) 0 0
@@ -38,8 +38,8 @@ nothing-requires c κs = search needs
 returns : tie.Need-returns
 returns c = gives-no (c .before .before .before .before .before .args .q) _ 2 (c .nothing .ensures) (c .before .refuse .ensures) (if-hit _ 2 0 _ (test-yes (c .before .before .before .any-spoilt .ensures) (c .before .before .if1 .taken))) (omega arith)
 
-at-most-requires : tie.Need-at-most-requires
-at-most-requires c κs = search needs
+held-requires : tie.Need-held-requires
+held-requires c κs = search needs
 
 first-records-requires : tie.Need-first-records-requires
 first-records-requires c κs = search needs
@@ -69,7 +69,7 @@ read-records-spec =
     refuse-requires
     nothing-requires
     returns
-    at-most-requires
+    held-requires
     first-records-requires
     problem-fault-requires
     nothing-requires-2

@@ -51,21 +51,23 @@ use denote.Triple.Table.{entered, cited}
 use denote.Triple.Walked.{says, Stays, stay-none-slice, walkOf, AllGo, goes-none-slice, Walks, ends-at, walked, walk-meets}
 use denote.Exit.{yes}
 use Rattle.tables.specs.declared.Loaded.{Loaded}
+use Rattle.tables.specs.Tables.{noJobs}
+use Rattle.tables.proofs.Lent.{none-tabled, one-tabled}
 use Rattle.tables.proofs.Loaded as G
 use Rattle.tables.proofs.Loaded.Laws as G′
 use Rattle.records.specs.declared.Action.{Action}
 use Rattle.records.specs.Records.{noRecord, recordAt, firstOf, withRecord, loaded}
 use Rattle.records.proofs.Action as T
 use Rattle.records.proofs.Action.Laws as T′
-use Rattle.records.proofs.Laws.{in-room, few, none-taken, one-taken}
-use Rattle.records.proofs.held as hld
-use Rattle.records.proofs.held.Symbol as hld-def
-use Rattle.records.proofs.held.Symbol.{name as #hld}
-use Rattle.records.proofs.held.Met as hld-thm
-use Rattle.records.proofs.empty as e0
-use Rattle.records.proofs.empty.Symbol as e0-def
-use Rattle.records.proofs.empty.Symbol.{name as #e0}
-use Rattle.records.proofs.empty.Met as e0-thm
+use Rattle.records.proofs.Laws.{in-room, few}
+use Rattle.tables.proofs.held as hld
+use Rattle.tables.proofs.held.Symbol as hld-def
+use Rattle.tables.proofs.held.Symbol.{name as #hld}
+use Rattle.tables.proofs.held.Met as hld-thm
+use Rattle.tables.proofs.no_jobs as e0
+use Rattle.tables.proofs.no_jobs.Symbol as e0-def
+use Rattle.tables.proofs.no_jobs.Symbol.{name as #e0}
+use Rattle.tables.proofs.no_jobs.Met as e0-thm
 use Rattle.records.proofs.with_record as p
 use Rattle.records.proofs.with_record.Symbol as p-def
 use Rattle.records.proofs.with_record.Symbol.{name as #p}
@@ -144,15 +146,15 @@ module _ {M : Type 1} (𝓤 : URA M) (H : Heap 𝓤) (A : Atoms 𝓤) (W : Given
   said-count : (r : ℕ) → ent 𝓤 (ensured 𝓤 H A hld.ended (hld.clauses 𝓤 H A mem run) tt (k, tt) tt r) (fact 𝓤 (r ≡ min k 24))
   said-count r = exE 𝓤 _ (λ ws. snd∗ 𝓤 (sem 𝓤 H A (lasts hld.ended tt (k, tt) ws)) (fact 𝓤 (r ≡ min k 24)))
 
-  -- ---- the call of `empty`
+  -- ---- the call of `no_jobs`
   abbrev to-empty : Empty 𝓤 H A mem run .Ghost
   to-empty = ((tt, tt, tt, (k, tt), (vint w64 k ∷ [], tt)), tt)
 
   asked-empty : k < 2 ^ 64 → ent 𝓤 (emp 𝓤) (Empty 𝓤 H A mem run .pre to-empty)
   asked-empty fits = qed W [] ∵ nothing ! $ owned ! usize (Is usize) (uint-makes 𝓤 H A W w64) k (vint w64 k ∷ []) (refl, fits) $ fjoin ! $ nothing ! $ join ! $ frame ! $ done !
 
-  said-empty : (r : Loaded) → ent 𝓤 (ensured 𝓤 H A e0.ended (e0.clauses 𝓤 H A mem run) tt (k, tt) tt r) (fact 𝓤 (r ≡ firstOf [] 0 k))
-  said-empty r = exE 𝓤 _ (λ ws. snd∗ 𝓤 (sem 𝓤 H A (lasts e0.ended tt (k, tt) ws)) (fact 𝓤 (r ≡ firstOf [] 0 k)))
+  said-empty : (r : Loaded) → ent 𝓤 (ensured 𝓤 H A e0.ended (e0.clauses 𝓤 H A mem run) tt (k, tt) tt r) (fact 𝓤 (r ≡ noJobs k))
+  said-empty r = exE 𝓤 _ (λ ws. snd∗ 𝓤 (sem 𝓤 H A (lasts e0.ended tt (k, tt) ws)) (fact 𝓤 (r ≡ noJobs k)))
 
   -- ---- the call of `with_record` in the turn i, where _4 holds u
   module _ (i : ℕ) (u : Val) where
@@ -245,7 +247,7 @@ module _ {M : Type 1} (𝓤 : URA M) (H : Heap 𝓤) (A : Atoms 𝓤) (W : Given
         land ! (from ! (stop !)) (store ! 4 refl (LL.lawful G.the-type G′.the-laws 𝓤 H A W .typed r (u′ ∷ []) is′ .0)) $ drop ! $
         assigns-last ! (bin ! (load ! (from ! (stop !)) (look ! 4 refl)) (lit ! tt) (record { fits = next-fits })) (from ! (stop !)) (store ! 4 refl (tt, record { fits = next-fits })) $
         forget ! 5 refl $ forget ! 6 refl $ forget ! 7 refl $ forget ! 8 refl $ forget ! 9 refl $
-        rewrite ! 4 (λ (j : ℕ). ‵ (fat fullShare word l₅ 0 (vint w64 j))) (add-one i) refl $ by ! (next u′ (subst (λ (z : Loaded). IsT z u′) (e ∙ one-taken ys i k) is′))))))))
+        rewrite ! 4 (λ (j : ℕ). ‵ (fat fullShare word l₅ 0 (vint w64 j))) (add-one i) refl $ by ! (next u′ (subst (λ (z : Loaded). IsT z u′) (e ∙ one-tabled _ _ _ _ k i) is′))))))))
       where
         within : i < k
         within = omega (arith, few k n n-is .1)
@@ -306,14 +308,14 @@ module _ {M : Type 1} (𝓤 : URA M) (H : Heap 𝓤) (A : Atoms 𝓤) (W : Given
       use0 W (raw (Empty 𝓤 H A mem run .pre to-empty)) (asked-empty (gn .0)) $
       calls-at ! (fmOf 𝓤 H (W .laws) 𝓣) (Empty 𝓤 H A mem run) known-empty to-empty (and-then ! (load ! (from ! (stop !)) (look ! 17 refl)) (no-more !)) (λ u.
       use1 W (later (some (λ (r : Loaded). (‵ ftrue ⊛ ‵ (G.the-row .own r (u ∷ []))) ⊛ raw (ensured 𝓤 H A e0.ended (e0.clauses 𝓤 H A mem run) tt (k, tt) tt r)))) (id⊢ 𝓤 _) $ await ! tt $ pick ! (λ r.
-      split ! $ move ! (1 ∷ []) $ use1 W (raw (fact 𝓤 (r ≡ firstOf [] 0 k))) (said-empty r) $ heard ! (r ≡ firstOf [] 0 k) (λ e. split ! $ drop ! $
+      split ! $ move ! (1 ∷ []) $ use1 W (raw (fact 𝓤 (r ≡ noJobs k))) (said-empty r) $ heard ! (r ≡ noJobs k) (λ e. split ! $ drop ! $
       peeks ! G.the-row (Is G.the-row) (shows 𝓤 H A G.the-row) r (u ∷ []) (λ is.
       land ! (from ! (stop !)) (init ! 13 refl (LL.lawful G.the-type G′.the-laws 𝓤 H A W .typed r (u ∷ []) is .0)) $ drop ! $
       assigns ! (of-opd ! (lit ! tt)) (from ! (stop !)) (init ! 10 refl (tt, record { fits = lit< tt })) $
       -- what t owns is had twice, one is kept whole, and of the other the fractured borrow
       move ! (23 ∷ []) $ fsplit ! $ use1 W (‵ Own ⊛ ‵ Own) (shr-slice-copy 𝓤 H A W (named 0) κ T.the-row .twice s (v ∷ [])) $ split ! $ fsplit ! $ drop ! $ fsplit ! $ move ! (26 ∷ []) $ split ! $
       keep ! (3 ∷ 0 ∷ 4 ∷ 18 ∷ 16 ∷ 14 ∷ 12 ∷ 10 ∷ 8 ∷ 6 ∷ 24 ∷ 20 ∷ 26 ∷ 22 ∷ 27 ∷ 25 ∷ 23 ∷ 21 ∷ 19 ∷ 17 ∷ 15 ∷ 13 ∷ 11 ∷ 9 ∷ 7 ∷ []) $
-      by ! (loops 𝓣 known-put gn n n-is l₀ l₁ l₂ l₃ l₄ l₅ l₆ l₇ l₈ l₉ l₁₀ u (subst (λ (z : Loaded). IsT z u) (e ∙ none-taken ys k) is)))))))))))))))))))))
+      by ! (loops 𝓣 known-put gn n n-is l₀ l₁ l₂ l₃ l₄ l₅ l₆ l₇ l₈ l₉ l₁₀ u (subst (λ (z : Loaded). IsT z u) (e ∙ none-tabled _ _ _ _ k) is)))))))))))))))))))))
 
 module _ {M : Type 1} (𝓤 : URA M) (H : Heap 𝓤) (A : Atoms 𝓤) (W : Given 𝓤 H A) (mem : Memory → SProp 𝓤) (run : Routine → Fun 𝓤) where
   walks : (𝓣 : Tables 𝓤 H) → Triple 𝓤 (𝓣 .C #hld) (Count 𝓤 H A mem run) → Triple 𝓤 (𝓣 .C #e0) (Empty 𝓤 H A mem run) → Triple 𝓤 (𝓣 .C #p) (Put 𝓤 H A mem run)
@@ -334,6 +336,6 @@ load-spec 𝓤 H 𝓜 𝓖 𝓡 =
     entered 𝓤 H (tripleOf 𝓤 H (𝓖 .A) f.signature (f.spec 𝓤 H (𝓖 .A) (𝓜 .mem) (𝓡 .run)))
     (tables 𝓤 H 𝓜 𝓡 code.env .C) (tables 𝓤 H 𝓜 𝓡 code.env .Λ) #f code.function (code.unfolded 𝓤 H 𝓜 𝓡)
     (meets 𝓤 H (𝓖 .A) (givenOf 𝓤 H 𝓜 𝓖) (𝓜 .mem) (𝓡 .run) (tablesOf 𝓤 H 𝓜 (tables 𝓤 H 𝓜 𝓡 code.env))
-    (cited 𝓤 H (Count 𝓤 H (𝓖 .A) (𝓜 .mem) (𝓡 .run)) 𝓜 𝓡 code.env #hld hld-def.routine code.calls-records·held (hld-thm.met 𝓤 H 𝓜 𝓖 𝓡))
-    (cited 𝓤 H (Empty 𝓤 H (𝓖 .A) (𝓜 .mem) (𝓡 .run)) 𝓜 𝓡 code.env #e0 e0-def.routine code.calls-records·empty (e0-thm.met 𝓤 H 𝓜 𝓖 𝓡))
+    (cited 𝓤 H (Count 𝓤 H (𝓖 .A) (𝓜 .mem) (𝓡 .run)) 𝓜 𝓡 code.env #hld hld-def.routine code.calls-tables·held (hld-thm.met 𝓤 H 𝓜 𝓖 𝓡))
+    (cited 𝓤 H (Empty 𝓤 H (𝓖 .A) (𝓜 .mem) (𝓡 .run)) 𝓜 𝓡 code.env #e0 e0-def.routine code.calls-tables·no-jobs (e0-thm.met 𝓤 H 𝓜 𝓖 𝓡))
     (cited 𝓤 H (Put 𝓤 H (𝓖 .A) (𝓜 .mem) (𝓡 .run)) 𝓜 𝓡 code.env #p p-def.routine code.calls-records·with-record (p-thm.met 𝓤 H 𝓜 𝓖 𝓡)))
