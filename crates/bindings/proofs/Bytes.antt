@@ -12,8 +12,8 @@ use lib.Dec.{T, eqb, leb, ltb, eqb→eq, eqb-refl, lt→ltb, ltb→lt}
 use lib.ListN.{getD}
 use Rattle.facts.specs.Facts.{has, Word}
 use Rattle.facts.specs.Least.{least, any}
-use Rattle.facts.proofs.Bools.{and-l, and-r, and-of, or-cases, or-l, or-r, same, eqb-of, below-suc}
-use Rattle.facts.proofs.Least.{least-is, any-of, least-hit}
+use Rattle.facts.proofs.Bools.{and-l, and-r, and-of, or-cases, or-l, or-r, same, eqb-of, below-suc, passes}
+use Rattle.facts.proofs.Least.{least-is, any-of, least-hit, any-none, least-same, any-same}
 use Rattle.rules.specs.Table.{Problem}
 use Rattle.rules.specs.Plans.{Plan, starts, inPlan, interfere}
 use Rattle.rules.specs.Supports.{Consumer, job, end, startFits, jobFits, name, named, byteIf, byteOf}
@@ -22,10 +22,9 @@ use Rattle.tables.specs.declared.Loaded.{Loaded}
 use Rattle.tables.specs.declared.Ask.{Ask}
 use Rattle.tables.specs.Tables.{problem}
 use Rattle.verdict.specs.Offered.{chosen}
-use Rattle.verdict.proofs.Steps.{passes, any-none}
 use Rattle.named.specs.declared.Row.{Row}
 use Rattle.named.specs.Named.{inRow, wants, RowOf}
-use Rattle.named.proofs.Tests.{and-false, fit-yes, fit-no, no-fact, any-if, least-below, any-below}
+use Rattle.named.proofs.Tests.{and-false, fit-yes, fit-no, no-fact, any-if}
 use Rattle.bindings.specs.Bindings.{pick, rowByte}
 
 -- ── the byte of a fact ──
@@ -52,7 +51,7 @@ unfolding rowByte named
 byte-of P s c want r p h = sym
     (byte-name (want p) (startFits P s p c) (jobFits P s p c) (P .count)
     ∙ ap₂ (λ (b : Bool) (f : Bool × ℕ). pick b (f .0) (f .1)) (sym (h .start p))
-    (ap₂ (λ (b : Bool) (a : ℕ). (b, a)) (sym (any-below _ _ (P .count) (λ a l. h .by a l p))) (sym (least-below _ _ (P .count) (λ a l. h .by a l p)))))
+    (ap₂ (λ (b : Bool) (a : ℕ). (b, a)) (sym (any-same _ _ (P .count) (λ a l. h .by a l p))) (sym (least-same _ _ (P .count) (λ a l. h .by a l p)))))
 
 -- ── a set of jobs filled job by job ──
 

@@ -5,13 +5,12 @@ use mathlib.Core.Bool.{Bool, _||_}
 use mathlib.Core.List.{List, [], _∷_, _++_, append-nil, append-assoc}
 use Prim.Native.Nat.{ℕ, _+_, _*_, _/_, _%_, _≤_, _<_}
 use native.Mathlib.Omega.{arith}
-use borrow.Author.Tests.{eq-eqb, ne-eqb}
 use lib.Dec.{T, eqb, leb, ltb, leb→le, le→leb, ltb→lt, lt→ltb}
 use lib.ListN.{length, getD, set, length-append, List·getD-append}
 use lib.Seq.{getD-append-seam}
 use native.Mathlib.Numerals.{add-one}
-use Rattle.facts.proofs.Bools.{same}
-use Rattle.rules.specs.Refusals.{Verdict, accepted}
+use Rattle.facts.proofs.Bools.{same, at-most}
+use Rattle.rules.specs.Refusals.{accepted}
 use Rattle.rules.specs.Table.{Problem}
 use Rattle.rules.specs.Plans.{Plan, starts}
 use Rattle.rules.specs.Supports.{byteOf, supportByte}
@@ -20,10 +19,10 @@ use Rattle.rules.proofs.Refused.{went-on}
 use Rattle.tables.specs.declared.Loaded.{Loaded}
 use Rattle.tables.specs.declared.Ask.{Ask}
 use Rattle.tables.specs.declared.Answer.{Answer}
-use Rattle.tables.specs.Tables.{problem, answer, filled, changed}
+use Rattle.tables.specs.Tables.{problem, answer, filled}
 use Rattle.verdict.specs.Offered.{offered, Offered, Given}
-use Rattle.verdict.proofs.Accepted.{at-most, offered-checks}
-use Rattle.tables.proofs.Laws.{said}
+use Rattle.verdict.proofs.Accepted.{offered-checks}
+use Rattle.tables.proofs.Laws.{said, numbered, answer-no, changed-new, changed-old}
 use Rattle.tables.proofs.Lent.{filled-more, filled-same}
 use Rattle.bindings.specs.Bindings.{supportVerdict, Supports, pairVerdict, Pairs, written, Puts}
 use Rattle.bindings.proofs.Count.{pairs-room}
@@ -31,17 +30,6 @@ use Rattle.bindings.proofs.Count.{pairs-room}
 -- the table is too short for 64 bytes a row exactly where it has too few whole rows
 pub short-is : (n k : ℕ) → leb (n / 64) k ≡ ltb n (64 * (k + 1))
 short-is n k = same _ _ (λ h. lt→ltb n (64 * (k + 1)) (omega (arith, leb→le (n / 64) k h))) (λ h. le→leb (n / 64) k (omega (arith, ltb→lt n (64 * (k + 1)) h)))
-
--- ── what a verdict leaves of lent bytes ──
-
-pub number-of : (v : Verdict) (yea nay : ℕ) {r : Answer} → r ≡ answer v yea nay → r .number ≡ v .number
-number-of v yea nay e = ap (λ (x : Answer). x .number) e
-
-pub changed-no : (v : Verdict) (new old : List ℕ) → (v .number ≡ 0 → ⊥) → old ≡ changed v new old
-changed-no v new old n = simp (ne-eqb _ _ n)
-
-pub changed-yes : (v : Verdict) (new old : List ℕ) → v .number ≡ 0 → new ≡ changed v new old
-changed-yes v new old z = simp (eq-eqb _ _ z)
 
 -- ── rows of 64 ──
 
@@ -65,19 +53,19 @@ module _ (l : Loaded) (q : Ask) (s old : List ℕ) {r : Answer} (h : Offered (le
   said-supports = h .says ∙ ap (λ (b : Bool). answer (offered (b || ltb (length s) (q .jobs)) l q s accepted) 0 0) (short-is (length old) (q .jobs))
 
   pub no-supports : (r .number ≡ 0 → ⊥) → Supports l q s old old r
-  no-supports n = record { says = said-supports; table = changed-no (supportVerdict l q s old) _ old (λ z. n (number-of (supportVerdict l q s old) 0 0 said-supports ∙ z)) }
+  no-supports n = record { says = said-supports; table = sym (changed-old (supportVerdict l q s old) _ old (λ z. n (numbered 0 0 said-supports ∙ z))) }
 
   pub all-supports : (new : List ℕ) → r .number ≡ 0 → new ≡ filled (supportByte (problem l q) (q .bound) (starts s)) (64 * (q .jobs + 1)) old → Supports l q s old new r
   all-supports new z e = record {
     says = said-supports;
-    table = e ∙ changed-yes (supportVerdict l q s old) _ old (sym (number-of (supportVerdict l q s old) 0 0 said-supports) ∙ z);
+    table = e ∙ sym (changed-new (supportVerdict l q s old) _ old (sym (numbered 0 0 said-supports) ∙ z));
   }
 
   pub supports-room : r .number ≡ 0 → Given q s × (64 * (q .jobs + 1) ≤ length old)
   supports-room z =
       let k = h .sound z in
       let n : T (ltb (length old) (64 * (q .jobs + 1))) → ⊥ = λ x. k .room (subst T (sym (short-is (length old) (q .jobs))) x) in
-      ((k .few, k .given), at-most (64 * (q .jobs + 1)) (length old) n)
+      ((k .few, k .given), at-most (length old) (64 * (q .jobs + 1)) n)
 
 -- ── a list written behind another ──
 
@@ -119,28 +107,25 @@ puts-next f k p q = rw add-one (puts-more p q)
 
 -- ── the call for pairs ──
 
-answer-no : (v : Verdict) (yea : ℕ) → (v .number ≡ 0 → ⊥) → answer v 0 0 ≡ answer v yea 0
-answer-no v yea n = simp (ne-eqb _ _ n)
-
 module _ (l : Loaded) (q : Ask) (s old : List ℕ) {r : Answer} (h : Offered (ltb (length old) 552) l q s r) where
   pub no-pairs : (r .number ≡ 0 → ⊥) → Pairs l q s old old r
   no-pairs n =
-      let no : pairVerdict l q s old .number ≡ 0 → ⊥ = λ z. n (number-of (pairVerdict l q s old) 0 0 (h .says) ∙ z) in
-      record { says = h .says ∙ answer-no (pairVerdict l q s old) _ no; list = changed-no (pairVerdict l q s old) _ old no }
+      let no : pairVerdict l q s old .number ≡ 0 → ⊥ = λ z. n (numbered 0 0 (h .says) ∙ z) in
+      record { says = h .says ∙ answer-no (pairVerdict l q s old) 0 _ 0 no; list = sym (changed-old (pairVerdict l q s old) _ old no) }
 
   -- the pairs of an accepted plan have room
   pub pairs-fit : r .number ≡ 0 → (length (pairBytes (problem l q) (starts s)) ≤ 552) × (552 ≤ length old)
-  pairs-fit z = let k = h .sound z in (pairs-room (problem l q) (starts s) (k .order) (k .few), at-most 552 (length old) (k .room))
+  pairs-fit z = let k = h .sound z in (pairs-room (problem l q) (starts s) (k .order) (k .few), at-most (length old) 552 (k .room))
 
   pub all-pairs : {t : Answer} {bytes : ℕ} (new : List ℕ) → r .number ≡ 0 → Puts (pairBytes (problem l q) (starts s)) 0 old new bytes → t ≡ answer accepted (bytes / 2) 0
       → Pairs l q s old new t
   unfolding filled
   all-pairs {t} {bytes} new z p e =
-      let zero : pairVerdict l q s old .number ≡ 0 = sym (number-of (pairVerdict l q s old) 0 0 (h .says)) ∙ z in
+      let zero : pairVerdict l q s old .number ≡ 0 = sym (numbered 0 0 (h .says)) ∙ z in
       let count : bytes ≡ length (pairBytes (problem l q) (starts s)) = omega (arith, p .next) in
       let none : pairVerdict l q s old ≡ accepted =
       went-on (offered (ltb (length old) 552 || ltb (length s) (q .jobs)) l q s) (offered-checks (ltb (length old) 552 || ltb (length s) (q .jobs)) l q s) zero accepted in
       record {
         says = e ∙ ap (λ (n : ℕ). answer accepted (n / 2) 0) count ∙ said (length (pairBytes (problem l q) (starts s)) / 2) 0 none;
-        list = p .list [] old refl refl ∙ changed-yes (pairVerdict l q s old) _ old zero;
+        list = p .list [] old refl refl ∙ sym (changed-new (pairVerdict l q s old) _ old zero);
       }

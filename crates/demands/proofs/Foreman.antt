@@ -8,14 +8,14 @@ use native.Mathlib.Omega.{arith}
 use borrow.Author.Tests.{le-ltb, eq-eqb}
 use lib.Dec.{T, ltb}
 use lib.ListN.{length, getD}
-use Rattle.facts.proofs.Bools.{or-l, or-r}
+use Rattle.facts.proofs.Bools.{or-l, or-r, at-most}
 use Rattle.rules.specs.Refusals.{Verdict, accepted}
 use Rattle.rules.specs.Table.{Problem, InOrder, tableChecks, boundCheck}
 use Rattle.rules.specs.Plans.{Plan, starts, Valid}
 use Rattle.rules.specs.Verdicts.{planChecks}
 use Rattle.rules.specs.Pairs.{binds, pairBytes}
 use Rattle.rules.specs.Execution.{began, finished, Log, Allowed}
-use Rattle.rules.proofs.Refused.{went-on, if-zero, table-checks}
+use Rattle.rules.proofs.Refused.{went-on, if-zero, table-checks, goes-on}
 use Rattle.rules.proofs.Checked.{passed, in-order}
 use Rattle.rules.proofs.Orders.{wider}
 use Rattle.rules.proofs.Performed.{demand3}
@@ -24,10 +24,9 @@ use Rattle.tables.specs.declared.Ask.{Ask}
 use Rattle.tables.specs.declared.Answer.{Answer}
 use Rattle.tables.specs.Tables.{problem, filled}
 use Rattle.tables.proofs.Lent.{filled-at, length-filled}
-use Rattle.entries.proofs.Laws.{changed-new}
-use Rattle.entries.proofs.Calls.{numbered}
+use Rattle.tables.proofs.Laws.{numbered, changed-new}
 use Rattle.verdict.specs.Offered.{offered}
-use Rattle.verdict.proofs.Accepted.{goes-on, offered-checks, exactly, at-most}
+use Rattle.verdict.proofs.Accepted.{offered-checks, exactly}
 use Rattle.bindings.specs.Bindings.{Pairs, pairVerdict, written}
 use Rattle.bindings.proofs.Count.{pairs-room}
 use Rattle.planning.specs.Planning.{planningChecks, PlansWithin, BoundsWithin}
@@ -61,10 +60,10 @@ module _ (l : Loaded) (q : Ask) (s old new : List ℕ) (r : Answer) (p : Pairs l
       room = if-zero (short || ltb (l .lent) (q .jobs)) 3 0 _ (omega arith) whole
 
       wide : 552 ≤ length old
-      wide = at-most 552 (length old) (λ x. room .0 (or-l short _ (or-l (ltb (length old) 552) _ x)))
+      wide = at-most (length old) 552 (λ x. room .0 (or-l short _ (or-l (ltb (length old) 552) _ x)))
 
       enough : q .jobs ≤ length s
-      enough = at-most (q .jobs) (length s) (λ x. room .0 (or-l short _ (or-r (ltb (length old) 552) _ x)))
+      enough = at-most (length s) (q .jobs) (λ x. room .0 (or-l short _ (or-r (ltb (length old) 552) _ x)))
 
       ok : InOrder (problem l q)
       ok = in-order (problem l q) (goes-on (tableChecks (problem l q)) (table-checks (problem l q)) _ (room .1) accepted)
@@ -102,13 +101,13 @@ module _ (l : Loaded) (q : Ask) (xs ys : List ℕ) where
     clear = if-zero (ltb (length xs) (q .jobs) || ltb (l .lent) (q .jobs)) 3 0 _ (omega arith) e
 
     room : q .jobs ≤ length xs
-    room = at-most (q .jobs) (length xs) (λ x. clear .0 (or-l (ltb (length xs) (q .jobs)) _ x))
+    room = at-most (length xs) (q .jobs) (λ x. clear .0 (or-l (ltb (length xs) (q .jobs)) _ x))
 
     -- the plan is accepted as it stands
     accepts : offered (ltb (length ys) (q .jobs)) l q ys accepted .number ≡ 0
     accepts = exactly l q ys _ refl .1 (
       omega (arith, room, ap length t, length-filled s (q .jobs) xs),
-      at-most (q .jobs) (l .lent) (λ x. clear .0 (or-r (ltb (length xs) (q .jobs)) _ x)),
+      at-most (l .lent) (q .jobs) (λ x. clear .0 (or-r (ltb (length xs) (q .jobs)) _ x)),
       clear .1,
       valid-same (problem l q) s (starts ys) (λ i h. sym (ap (λ (x : List ℕ). getD x i 0) t ∙ filled-at s (q .jobs) xs i 0 h (omega (arith, room)))) (q .bound) v,
     )

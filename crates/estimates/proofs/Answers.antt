@@ -3,8 +3,9 @@
 use mathlib.Core.Path.{_≡_, sym, ap, _∙_}
 use mathlib.Core.List.{List}
 use Prim.Native.Nat.{ℕ, _≤_}
-use lib.Dec.{ltb, nltb→le, not-T}
+use lib.Dec.{ltb}
 use lib.ListN.{length}
+use Rattle.facts.proofs.Bools.{at-most}
 use Rattle.rules.specs.Refusals.{Verdict, accepted}
 use Rattle.rules.specs.Table.{InOrder}
 use Rattle.rules.specs.Estimates.{Estimates}
@@ -12,10 +13,9 @@ use Rattle.tables.specs.declared.Loaded.{Loaded}
 use Rattle.tables.specs.declared.Ask.{Ask}
 use Rattle.tables.specs.declared.Answer.{Answer}
 use Rattle.tables.specs.Tables.{problem, answer, filled, Judges}
-use Rattle.tables.proofs.Laws.{said}
+use Rattle.tables.proofs.Laws.{said, numbered, changed-new, changed-old}
+use Rattle.tables.proofs.Calls.{call-checks, accepts-by, long-enough, call-passed}
 use Rattle.entries.specs.Entries.{entry}
-use Rattle.entries.proofs.Laws.{changed-new, changed-old}
-use Rattle.entries.proofs.Calls.{call-checks, numbered, accepts-by, long-enough, call-passed}
 use Rattle.estimates.specs.Earliest.{verdict, Earliest}
 
 module _ (l : Loaded) (q : Ask) (xs : List ℕ) where
@@ -27,7 +27,7 @@ module _ (l : Loaded) (q : Ask) (xs : List ℕ) where
   few j z = call-passed (ltb (length xs) (q .jobs)) l q (accepts j z) .count
 
   pub room : {r : Answer} {A : Type 0} → Judges (verdict l q xs) A r → r .number ≡ 0 → q .jobs ≤ length xs
-  room j z = nltb→le _ _ (not-T (ltb (length xs) (q .jobs)) (long-enough (ltb (length xs) (q .jobs)) l q (accepts j z)))
+  room j z = at-most (length xs) (q .jobs) (long-enough (ltb (length xs) (q .jobs)) l q (accepts j z))
 
   pub refuses : {r : Answer} {A : Type 0} → Judges (verdict l q xs) A r → (r .number ≡ 0 → ⊥) → Earliest l q xs r xs
   refuses j n = record {

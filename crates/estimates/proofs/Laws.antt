@@ -1,7 +1,7 @@
 -- Rounds of estimates where there is no gap and no release, as in 01.
 -- Assumes nothing.
 use mathlib.Core.Path.{_≡_, sym, ap, ap₂, _∙_}
-use mathlib.Core.Logic.{_⊎_, inl, inr, ⊎-elim}
+use mathlib.Core.Logic.{⊎-elim}
 use mathlib.Core.Bool.{cond}
 use mathlib.Core.List.{List}
 use Prim.Native.Nat.{ℕ, zero, suc, _+_, _≤_, _<_, min, max}
@@ -12,8 +12,8 @@ use Rattle.facts.specs.Facts.{has}
 use Rattle.facts.proofs.Bools.{T?}
 use Rattle.rules.specs.Table.{Problem}
 use Rattle.rules.specs.Estimates.{plus, cheapest, cost, condition, dearest, Estimates}
-use Rattle.rules.proofs.Sums.{sum, sum-falls, cond-yes, cond-no, cond-mono}
-use Rattle.rules.proofs.Early.{cost-free, cost-cap, cost-le, cost-at}
+use Rattle.rules.proofs.Sums.{sum, sum-falls, cond-yes, cond-no}
+use Rattle.rules.proofs.Early.{cost-free, cost-cap, dearest-mono, dearest-cap}
 use Rattle.entries.specs.Entries.{entry, Same}
 use Rattle.estimates.specs.Earliest.{greatest, Costs, Rounds}
 
@@ -36,18 +36,6 @@ pub cost-closed : (P : Problem) (e : ℕ → ℕ) (p : ℕ) → (T (has (P .open
 unfolding cost
 cost-closed P e p n = sym (cond-no (has (P .opening) p) 0 (cheapest P e p (P .count)) n)
 
-plus-mono : (e f d : ℕ) → e ≤ f → plus e d ≤ plus f d
-unfolding plus
-plus-mono e f d l = omega arith
-
--- lower estimates make no fact dearer
-cost-mono : (P : Problem) (e f : ℕ → ℕ) (p : ℕ) → ((j : ℕ) → j < P .count → e j ≤ f j) → cost P e p ≤ cost P f p
-cost-mono P e f p h = ⊎-elim (λ o. omega (arith, cost-free P e p o)) (λ n. go (cost-at P f p n)) (T? (has (P .opening) p))
-  where
-    go : (cost P f p ≡ 65535) ⊎ ((a : ℕ) × (a < P .count) × T (has (P .additions a) p) × (cost P f p ≡ plus (f a) (P .duration a))) → cost P e p ≤ cost P f p
-    go (inl q) = omega (arith, cost-cap P e p)
-    go (inr (a, l, g, q)) = omega (arith, cost-le P e p a l g, plus-mono (e a) (f a) (P .duration a) (h a l))
-
 -- with no gap a condition costs what its fact costs
 condition-cost : (P : Problem) → P .gap ≡ 0 → (e : ℕ → ℕ) (p : ℕ) → condition P e p ≡ cost P e p
 unfolding condition plus
@@ -62,30 +50,15 @@ module _ (P : Problem) (gap : P .gap ≡ 0) (release : (i : ℕ) → P .release 
   greatest-is e costs i zero l h = sym (release i)
   greatest-is e costs i (suc p) l h = ap₂ (λ (x y : ℕ). max (cond (has (P .conditions i) p) x 0) y) (h p (omega arith) ∙ sym (condition-cost P gap e p)) (greatest-is e costs i p (omega arith) h)
 
-  dearest-mono : (e f : ℕ → ℕ) (i k : ℕ) → ((j : ℕ) → j < P .count → e j ≤ f j) → dearest P e i k ≤ dearest P f i k
-  unfolding dearest
-  dearest-mono e f i zero h = omega arith
-  dearest-mono e f i (suc k) h =
-      let r : dearest P e i k ≤ dearest P f i k = dearest-mono e f i k h in
-      let m : condition P e k ≤ condition P f k = omega (arith, cost-mono P e f k h, condition-cost P gap e k, condition-cost P gap f k) in
-      omega (arith, cond-mono (has (P .conditions i) k) _ _ 0 m)
-
-  dearest-cap : (e : ℕ → ℕ) (i k : ℕ) → dearest P e i k ≤ 65535
-  unfolding dearest
-  dearest-cap e i zero = omega (arith, release i)
-  dearest-cap e i (suc k) =
-      let r : dearest P e i k ≤ 65535 = dearest-cap e i k in
-      ⊎-elim (λ y. omega (arith, cond-yes (has (P .conditions i) k) (condition P e k) 0 y, condition-cost P gap e k, cost-cap P e k)) (λ n. omega (arith, cond-no (has (P .conditions i) k) (condition P e k) 0 n)) (T? (has (P .conditions i) k))
-
   -- no estimate is too low
   abbrev pub High : List ℕ → Type 0
   High est = (i : ℕ) → i < P .count → dearest P (entry est) i 64 ≤ entry est i
 
   pub high-first : (est : List ℕ) → ((i : ℕ) → i < P .count → entry est i ≡ 65535) → High est
-  high-first est h i l = omega (arith, h i l, dearest-cap (entry est) i 64)
+  high-first est h i l = omega (arith, h i l, dearest-cap P (entry est) i, release i)
 
   pub high-next : (est next : List ℕ) → High est → Rounds P (entry est) next (P .count) → High next
-  high-next est next h r i l = rw (r i l) (dearest-mono (entry next) (entry est) i 64 (λ j m. rw (r j m) (h j m)))
+  high-next est next h r i l = rw (r i l) (dearest-mono P (entry next) (entry est) i 64 (λ j m. rw (r j m) (h j m)))
 
   -- a round that changes an estimate lowers their sum
   pub sum-less : (est next : List ℕ) → High est → Rounds P (entry est) next (P .count) → (Same est next (P .count) → ⊥) → sum (entry next) (P .count) < sum (entry est) (P .count)

@@ -12,10 +12,9 @@ use Rattle.tables.specs.declared.Loaded.{Loaded}
 use Rattle.tables.specs.declared.Ask.{Ask}
 use Rattle.tables.specs.declared.Answer.{Answer}
 use Rattle.tables.specs.Tables.{problem, filled, changed}
-use Rattle.tables.proofs.Laws.{accepts}
+use Rattle.tables.proofs.Laws.{accepts, changed-old}
 use Rattle.tables.proofs.Lent.{filled-same}
-use Rattle.entries.proofs.Laws.{changed-old}
-use Rattle.entries.proofs.Calls.{call-checks}
+use Rattle.tables.proofs.Calls.{call-checks}
 use Rattle.estimates.specs.Earliest.{verdict, Earliest}
 
 pub earliest-only : (l : Loaded) (q : Ask) (xs : List ℕ) (r s : Answer) (ys zs : List ℕ) → Earliest l q xs r ys → Earliest l q xs s zs → (r ≡ s) × (ys ≡ zs)

@@ -6,7 +6,7 @@ use mathlib.Core.Logic.{_⊎_, inl, inr, _≢_, _↔_}
 use Prim.Native.Nat.{ℕ, suc, _≤_, _<_}
 use native.Mathlib.Omega.{arith}
 use native.Mathlib.Decide.{decLt}
-use lib.Dec.{T, eqb, eqb→eq, eqb-refl, T-not, not-T}
+use lib.Dec.{T, eqb, ltb, eqb→eq, eqb-refl, nltb→le, T-not, not-T}
 use borrow.Author.Tests.{eqb-true, eqb-false, not-true, not-false}
 use Rattle.facts.specs.Facts.{Decides}
 
@@ -45,6 +45,11 @@ pub certain : (b : Bool) → (T (not b) → ⊥) → T b
 certain true h = tt
 certain false h = absurd (h tt)
 
+-- a test that passes is true
+pub passes : (b : Bool) → T b → true ≡ b
+passes true h = refl
+passes false h = absurd h
+
 -- two tests that pass together are one
 pub same : (a b : Bool) → (T a → T b) → (T b → T a) → a ≡ b
 same true true f g = refl
@@ -82,6 +87,10 @@ not-eqb m n ne = not-T (eqb m n) (λ e. ne (eqb→eq m n e))
 
 pub eqb-not : (m n : ℕ) → T (not (eqb m n)) → m ≢ n
 eqb-not m n h e = T-not (eqb m n) h (eqb-of e)
+
+-- what is not less
+pub at-most : (m n : ℕ) → (T (ltb m n) → ⊥) → n ≤ m
+at-most m n q = nltb→le m n (not-T (ltb m n) q)
 
 pub below-suc : (i k : ℕ) → i < suc k → (i < k) ⊎ (i ≡ k)
 below-suc i k l = go (decLt i k)

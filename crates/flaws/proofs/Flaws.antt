@@ -1,8 +1,8 @@
 -- Laws of the flaw finder.
 -- Assumes nothing.
 use mathlib.Core.Path.{_≡_, refl, sym, subst, _∙_}
-use mathlib.Core.Logic.{_⊎_, inl, inr, ⊎-elim, _≢_}
-use mathlib.Core.Bool.{Bool, true, false, not, _&&_}
+use mathlib.Core.Logic.{inl, inr, ⊎-elim, _≢_}
+use mathlib.Core.Bool.{Bool, true, false, not, _&&_, false≢true}
 use mathlib.Core.List.{List}
 use Prim.Native.Nat.{ℕ, _+_, _<_, _^_}
 use native.Mathlib.Omega.{arith}
@@ -13,7 +13,7 @@ use borrow.Author.Tests.{lt-ltb, not-true, not-false, eqb-true, eqb-false}
 use Rattle.facts.specs.Facts.{has, Decides}
 use Rattle.rules.specs.Table.{InOrder}
 use Rattle.rules.specs.Supports.{Support, start, nobody, by}
-use Rattle.facts.proofs.Bools.{below-suc, and-of, and-l, and-r}
+use Rattle.facts.proofs.Bools.{below-suc, and-of, and-l, and-r, T?, test-yes, test-no}
 use Rattle.states.specs.State.{Search, Dead, Who, task, goal, Other, late, done, useless, serves, Killer, MayJob, SafeJob, OpenPair, there, Wants, May}
 use Rattle.orders.specs.declared.State.{State}
 use Rattle.orders.specs.View.{view, FreeJob, FreePair, orBit}
@@ -27,25 +27,16 @@ use Rattle.states.proofs.Rules as rules
 pub who-job : (b : ℕ) → b < 24 → who b ≡ task b
 who-job b l = rw (lt-ltb b 24 l)
 
-T-of : (x : Bool) → x ≡ true → T x
-T-of x e = rw e tt
-
-T-un : (x : Bool) → x ≡ false → T x → ⊥
-T-un x e h = rw e at h
-
-clash : {A : Type 0} {r : Bool} → r ≡ true → r ≡ false → A
-clash p q = absurd (let z : _≡_ {A = Bool} true false = sym p ∙ q in T-un true z tt)
-
 -- ── answers ──
 
 pub says-no : {X : Type 0} → (X → ⊥) → Decides false X
-says-no h = record { yea = λ e. clash {r = false} e refl; nay = λ e. h }
+says-no h = record { yea = λ e. absurd (false≢true e); nay = λ e. h }
 
 pub says-test : {X : Type 0} {r x : Bool} → r ≡ x → (T x → X) → (X → T x) → Decides r X
-says-test {x = x} e f g = record { yea = λ h. f (T-of x (sym e ∙ h)); nay = λ h y. T-un x (sym e ∙ h) (g y) }
+says-test e f g = record { yea = λ h. f (test-yes e h); nay = λ h y. test-no e h (g y) }
 
 pub says-not : {X : Type 0} {r x : Bool} → r ≡ x → ((T x → ⊥) → X) → (X → T x → ⊥) → Decides (not r) X
-says-not {r = r} {x} e f g = record { yea = λ h. f (T-un x (sym e ∙ not-true r h)); nay = λ h y. g y (T-of x (sym e ∙ not-false r h)) }
+says-not {r = r} e f g = record { yea = λ h. f (test-no e (not-true r h)); nay = λ h y. g y (test-yes e (not-false r h)) }
 
 -- the branch on !r, where r decides
 pub no-of : {X : Type 0} {r : Bool} → Decides r X → not r ≡ true → X → ⊥
@@ -56,20 +47,14 @@ yes-of {r = r} d h = d .yea (not-false r h)
 
 -- ── words ──
 
-pub bit-none : (i : ℕ) → T (has 0 i) → ⊥
-bit-none i h = has-zero i h
-
 pub bit-and-of : (a b i : ℕ) → T (has a i) → T (has b i) → T (has (bitAnd a b) i)
 bit-and-of a b i h k = subst T (sym (has-and a b i)) (and-of (has a i) (has b i) h k)
 
 pub bit-and-at : (a b i : ℕ) → T (has (bitAnd a b) i) → T (has a i) × T (has b i)
 bit-and-at a b i h = let x : T (has a i && has b i) = subst T (has-and a b i) h in (and-l (has a i) (has b i) x, and-r (has a i) (has b i) x)
 
-pub bit-some : (w : ℕ) → (w ≡ 0 → ⊥) → (i : ℕ) × T (has w i)
-bit-some w h = some-fact w h
-
 pub cols-zero : {f : ℕ → Type 0} → Cols f 0 0
-cols-zero = record { of = λ i h. absurd (bit-none i h); at = λ i l. absurd (omega arith) }
+cols-zero = record { of = λ i h. absurd (has-zero i h); at = λ i l. absurd (omega arith) }
 
 pub cols-next : {f : ℕ → Type 0} {w n r : ℕ} {b : Bool} → Cols f w n → Decides b (f n) → r ≡ orBit b w n → Cols f r (n + 1)
 cols-next {f} {w} {n} {r} {b} c d e = go b d e
@@ -128,7 +113,7 @@ clear-of : (P : Search) (s : State) (p b a A G R : ℕ) → Scene P s p b A G R 
     → (d : ℕ) → Killer P (view s) p (who b) d → T (view s .never d a) → T (late (view s) (who b) d) → ⊥
 clear-of P s p b a A G R c e d k n l =
     let g : T (has G d) = c .dangers .at d (omega (arith, c .count, k .below)) (record { killer = k; late = l }) in
-    bit-none d (rw e at (bit-and-of (getD (s .never) a 0) G d n g))
+    has-zero d (rw e at (bit-and-of (getD (s .never) a 0) G d n g))
 
 module _ (P : Search) (s : State) (p b a A G R : ℕ) (c : Scene P s p b A G R) where
   pub may-self : a < 24 → a ≡ b → MayJob P (view s) p (who b) a → ⊥
@@ -151,7 +136,7 @@ module _ (P : Search) (s : State) (p b a A G R : ℕ) (c : Scene P s p b A G R) 
           clear = clear-of P s p b a A G R c (eqb-true (bitAnd (getD (s .never) a 0) G) 0 e);
         };
         nay = λ e m. (
-            let i = bit-some (bitAnd (getD (s .never) a 0) G) (eqb-false (bitAnd (getD (s .never) a 0) G) 0 e) in
+            let i = some-fact (bitAnd (getD (s .never) a 0) G) (eqb-false (bitAnd (getD (s .never) a 0) G) 0 e) in
             let k = bit-and-at (getD (s .never) a 0) G (i .0) (i .1) in
             let g = c .dangers .of (i .0) (k .1) .1 in
             m .clear (i .0) (g .killer) (k .0) (g .late)
@@ -159,10 +144,6 @@ module _ (P : Search) (s : State) (p b a A G R : ℕ) (c : Scene P s p b A G R) 
       }
 
 -- ── what is lacking ──
-
-T? : (b : Bool) → T b ⊎ (T b → ⊥)
-T? true = inl tt
-T? false = inr (λ x. x)
 
 pub in-not-no : (w v d : ℕ) → T (has v d) → Decides false (T (has w d) × (T (has v d) → ⊥))
 in-not-no w v d h = says-no (λ x. x .1 h)
@@ -261,14 +242,14 @@ module _ (P : Search) (s : State) (p b a A G R : ℕ) where
 
 module _ (P : Search) (s : State) (p b A G R : ℕ) (c : Scene P s p b A G R) where
   no-danger : G ≡ 0 → (d : ℕ) → Killer P (view s) p (who b) d → T (late (view s) (who b) d) → ⊥
-  no-danger e d k l = bit-none d (rw e at (c .dangers .at d (omega (arith, c .count, k .below)) (record { killer = k; late = l })))
+  no-danger e d k l = has-zero d (rw e at (c .dangers .at d (omega (arith, c .count, k .below)) (record { killer = k; late = l })))
 
   pub start-safe : T (has (P .problem .opening) p) → {d : ℕ} → Lack R 0 d → d ≡ 24 → SomeSafe P s p b
   start-safe o l e = (
     start,
     record {
       given = o;
-      clear = λ d k. ⊎-elim (λ x. x) (λ n. absurd (bit-none d (l .none e d (omega (arith, c .count, k .below)) (c .rest .at d (omega (arith, c .count, k .below)) (record { killer = k; free = n }))))) (T? (done (view s) (who b) d));
+      clear = λ d k. ⊎-elim (λ x. x) (λ n. absurd (has-zero d (l .none e d (omega (arith, c .count, k .below)) (c .rest .at d (omega (arith, c .count, k .below)) (record { killer = k; free = n }))))) (T? (done (view s) (who b) d));
     },
   )
 
@@ -276,7 +257,7 @@ module _ (P : Search) (s : State) (p b A G R : ℕ) (c : Scene P s p b A G R) wh
   start-threat e {d} l h = let u = c .rest .of d (l .here h) .1 in pair-with s b d h (u .free) (no-danger e d (u .killer))
 
   pub none-danger : (G ≡ 0 → ⊥) → NoneBelow P s p b 24 → NoMay P s p b
-  none-danger n f start m = let i = bit-some G n in let g = c .dangers .of (i .0) (i .1) .1 in m .clear (i .0) (g .killer) (g .late)
+  none-danger n f start m = let i = some-fact G n in let g = c .dangers .of (i .0) (i .1) .1 in m .clear (i .0) (g .killer) (g .late)
   none-danger n f nobody m = m
   none-danger n f (by a) m = f a (omega (arith, c .count, m .below)) m
 

@@ -9,6 +9,7 @@ use native.Mathlib.Omega.{arith}
 use lib.Dec.{T, eqb}
 use lib.ListN.{length}
 use borrow.Author.Tests.{eqb-true}
+use Rattle.facts.proofs.Bools.{at-most}
 use Rattle.rules.specs.Refusals.{Verdict, refuseIf}
 use Rattle.tables.specs.declared.Loaded.{Loaded}
 use Rattle.tables.specs.declared.Ask.{Ask}
@@ -16,7 +17,7 @@ use Rattle.tables.specs.declared.Answer.{Answer}
 use Rattle.tables.specs.Tables.{answer}
 use Rattle.jobfile.specs.Format.{trailerIn, askIn, recordsIn, tableIn}
 use Rattle.jobfile.specs.Calls.{saveChecks, readChecks, whole, nothing, reading}
-use Rattle.jobfile.proofs.Checks.{at-most, problem-accepts, problem-count}
+use Rattle.jobfile.proofs.Checks.{problem-accepts, problem-count}
 use Rattle.records.specs.declared.Action.{Action}
 use Rattle.records.specs.Records.{placed}
 use Rattle.front.specs.declared.ReadAnswer.{ReadAnswer}

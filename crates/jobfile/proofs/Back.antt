@@ -10,11 +10,11 @@ use lib.Dec.{T, eqb, ltb, ltb→lt}
 use lib.ListN.{length, getD, take, replicate}
 use lib.Seq.{length-take-le}
 use Rattle.facts.specs.Least.{any}
-use Rattle.facts.proofs.Bools.{or-l, or-cases, below-suc}
+use Rattle.facts.proofs.Bools.{or-l, or-cases, below-suc, at-most}
 use Rattle.facts.proofs.Least.{any-at}
 use Rattle.rules.specs.Refusals.{Verdict, accepted}
 use Rattle.rules.specs.Table.{tableChecks, boundCheck}
-use Rattle.rules.proofs.Refused.{if-zero, if-pass, table-checks}
+use Rattle.rules.proofs.Refused.{if-zero, if-pass, table-checks, both}
 use Rattle.rules.proofs.Checked.{Passed, passed, passed-conditions, passed-additions, passed-deletions, passed-opening, passed-goals}
 use Rattle.tables.specs.declared.Loaded.{Loaded}
 use Rattle.tables.specs.declared.Ask.{Ask}
@@ -27,7 +27,7 @@ use Rattle.bytes_le.proofs.Laid.{length-laid}
 use Rattle.bytes_le.proofs.Fields.{Found, fields-found}
 use Rattle.jobfile.specs.Format.{recordFields, recordOf, recordsOf, trailerFields, trailerOf, saveOf, lengthAfter, trailerAt, trailerIn, askIn, distanceIn, tooFar, recordsIn, spoilt, field, firstOf, tableIn}
 use Rattle.jobfile.specs.Calls.{problemChecks, saveChecks, readChecks, whole, taken, reading, writeChecks, Writes, saved, firsts, kept}
-use Rattle.jobfile.proofs.Checks.{at-most, both, any-test, write-accepts}
+use Rattle.jobfile.proofs.Checks.{any-test, write-accepts}
 use Rattle.jobfile.proofs.Saves.{length-records, length-save}
 use Rattle.jobfile.proofs.Same.{checks-same}
 

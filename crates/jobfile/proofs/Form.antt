@@ -9,7 +9,7 @@ use lib.Dec.{T, eqb, eqb→eq, ltb}
 use lib.ListN.{length, getD, take, drop, replicate, length-drop, take-append-drop}
 use lib.Seq.{length-take-le, drop-drop}
 use Rattle.facts.specs.Least.{any}
-use Rattle.facts.proofs.Bools.{certain, or-l, or-r}
+use Rattle.facts.proofs.Bools.{certain, or-l, or-r, at-most}
 use Rattle.facts.proofs.Least.{any-of}
 use Rattle.rules.specs.Refusals.{Verdict, accepted}
 use Rattle.rules.proofs.Refused.{if-zero}
@@ -23,7 +23,7 @@ use Rattle.bytes_le.proofs.Fields.{found-fields}
 use Rattle.jobfile.specs.declared.Read.{Read}
 use Rattle.jobfile.specs.Format.{recordFields, recordOf, recordsOf, trailerFields, trailerOf, saveOf, trailerAt, trailerIn, askIn, distanceIn, tooFar, recordsIn, spoilt, field, tableIn}
 use Rattle.jobfile.specs.Calls.{readChecks, saveChecks, taken, reading}
-use Rattle.jobfile.proofs.Checks.{at-most, any-test, problem-count}
+use Rattle.jobfile.proofs.Checks.{any-test, problem-count}
 use Rattle.jobfile.proofs.Saves.{length-records, length-trailer}
 
 -- what a file that is read holds, by name

@@ -1,19 +1,14 @@
 -- The checks of a table look at its jobs alone: two tables with the same jobs are judged alike.
 -- Assumes nothing.
-use mathlib.Core.Path.{_≡_, refl, ap, ap₂, _∙_}
+use mathlib.Core.Path.{_≡_, ap, ap₂, _∙_}
 use mathlib.Core.Bool.{Bool, not, _&&_, _||_}
-use Prim.Native.Nat.{ℕ, zero, suc, _<_}
-use native.Mathlib.Omega.{arith}
-use lib.Dec.{eqb, ltb}
+use Prim.Native.Nat.{ℕ, _<_}
+use lib.Dec.{ltb}
 use Rattle.facts.specs.Facts.{has}
-use Rattle.facts.specs.Least.{least, further, any}
+use Rattle.facts.specs.Least.{any}
+use Rattle.facts.proofs.Least.{least-same}
 use Rattle.rules.specs.Refusals.{Verdict, refuseIf, refuseAt}
 use Rattle.rules.specs.Table.{plain, between, strays, jobStrays, undoes, jobChecks, tableChecks}
-
-pub least-same : (f g : ℕ → Bool) (n : ℕ) → ((i : ℕ) → i < n → f i ≡ g i) → least f n ≡ least g n
-unfolding least
-least-same f g zero h = refl
-least-same f g (suc k) h = ap₂ (λ (r : ℕ) (b : Bool). further (eqb r k) b k r) (least-same f g k (λ i l. h i (omega arith))) (h k (omega arith))
 
 pub at-same : (f g : ℕ → Bool) (m n : ℕ) (v : Verdict) → ((i : ℕ) → i < m → f i ≡ g i) → refuseAt f m n v ≡ refuseAt g m n v
 unfolding refuseAt any

@@ -1,7 +1,7 @@
 -- What the tests of the reader say of its checks, and where the records stand.
 -- Assumes nothing.
 use mathlib.Core.Path.{_≡_, sym, ap, ap₂, _∙_, subst}
-use mathlib.Core.Bool.{Bool, false, cond}
+use mathlib.Core.Bool.{Bool, cond}
 use mathlib.Core.List.{List}
 use Prim.Native.Nat.{ℕ, _+_, _-_, _*_, _<_}
 use native.Mathlib.Numerals.{add-one}
@@ -10,9 +10,6 @@ use borrow.Author.Tests.{eq-eqb, ne-eqb}
 use lib.Dec.{T}
 use lib.ListN.{length, take, drop, length-drop}
 use lib.Seq.{take-all}
-use Rattle.facts.specs.Least.{any}
-use Rattle.facts.proofs.Bools.{same}
-use Rattle.facts.proofs.Least.{any-at}
 use Rattle.rules.specs.Refusals.{Verdict, refused}
 use Rattle.rules.proofs.Refused.{if-hit, if-pass}
 use Rattle.tables.specs.declared.Loaded.{Loaded}
@@ -25,9 +22,6 @@ use Rattle.jobfile.specs.declared.Read.{Read}
 use Rattle.jobfile.specs.Format.{field, firstOf, trailerAt, trailerIn, askIn, distanceIn, tooFar, recordsIn, tableIn}
 use Rattle.jobfile.specs.Calls.{recordChecks, saveChecks, nothing, whole, given, taken}
 use Rattle.jobfile_read.specs.Steps.{withRecord}
-
-pub any-none : (f : ℕ → Bool) (n : ℕ) → ((i : ℕ) → i < n → T (f i) → ⊥) → false ≡ any f n
-any-none f n h = same false (any f n) (λ x. absurd x) (λ x. let y = any-at f n x in h (y .0) (y .1) (y .2))
 
 pub first-more : (rs : List ℕ) (k room : ℕ) → withRecord (firstOf rs k room) rs k ≡ firstOf rs (k + 1) room
 first-more rs k room = one-tabled (field 8 rs 0) (field 8 rs 8) (field 8 rs 16) (field 2 rs 24) room k ∙ ap (λ (n : ℕ). firstOf rs n room) (sym (add-one k))

@@ -8,14 +8,14 @@ use lib.Dec.{T, eqb→eq, T-not, not-T}
 use Rattle.facts.specs.Facts.{has, Word}
 use Rattle.facts.specs.Least.{least, any}
 use Rattle.facts.proofs.Bools.{and-l, and-r, and-of, same, eqb-of}
-use Rattle.facts.proofs.Least.{lowest, least-is, any-of, any-at, least-hit}
+use Rattle.facts.proofs.Least.{lowest, least-is, any-of, any-at, least-hit, any-more}
 use Rattle.rules.specs.Table.{Problem}
 use Rattle.rules.specs.Plans.{Plan}
 use Rattle.rules.specs.Supports.{Consumer, startFits, jobFits, name, named}
 use Rattle.rules.specs.Pairs.{isJob}
 use Rattle.named.specs.declared.Row.{Row}
 use Rattle.named.specs.Named.{RowOf}
-use Rattle.named.proofs.Tests.{and-true, any-more}
+use Rattle.named.proofs.Tests.{and-true}
 
 -- ── who is named ──
 
@@ -63,7 +63,7 @@ module _ (P : Problem) (s : Plan) (c : Consumer) (want : ℕ) where
   pub left-more : (k w f v : ℕ) → Left k w → Word (λ p. jobFits P s p c k) f → Word (λ p. has w p && not (has f p)) v → Left (k + 1) v
   left-more k w f v l g h p =
       h p ∙ ap₂ (λ (x y : Bool). x && not y) (l p) (g p) ∙ less-more (has want p && not (startFits P s p c)) (any (jobFits P s p c) k) (jobFits P s p c k)
-      ∙ ap (λ (x : Bool). (has want p && not (startFits P s p c)) && not x) (any-more (jobFits P s p c) k)
+      ∙ ap (λ (x : Bool). (has want p && not (startFits P s p c)) && not x) (sym (any-more (jobFits P s p c) k))
 
   -- job k takes the facts that are left and that it fits
   pub taken : (k w f v : ℕ) → k < P .count → Left k w → Word (λ p. jobFits P s p c k) f → Word (λ p. has w p && has f p) v

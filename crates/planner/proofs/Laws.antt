@@ -2,9 +2,9 @@
 -- Assumes nothing.
 use mathlib.Core.Path.{_≡_, refl, sym, subst, _∙_}
 use mathlib.Core.Logic.{inl, inr, ⊎-elim}
-use mathlib.Core.Bool.{Bool, true, false}
-use mathlib.Core.List.{List, [], _∷_}
-use Prim.Native.Nat.{ℕ, zero, suc, _+_, _≤_, _<_}
+use mathlib.Core.Bool.{true, false, true≢false, false≢true}
+use mathlib.Core.List.{List}
+use Prim.Native.Nat.{ℕ, _+_, _≤_, _<_}
 use native.Mathlib.Numerals.{add-one}
 use lib.Dec.{eqb, eqb→eq, T-not, not-T, T}
 use borrow.Author.Tests.{eq-eqb}
@@ -26,9 +26,6 @@ use Rattle.orders.proofs.Changes.{at-set}
 use Rattle.search.proofs.Repairs.{more-inside, more-barred, fits-inside, fits-barred, new-inside, new-barred}
 use Rattle.planner.specs.Planner.{Begins, Sooner, Without, Lowered, LowerOk, RootOk, FirstOf}
 use Rattle.states.proofs.Firsts as firsts
-
-bad : {A : Type 0} → _≡_ {A = Bool} true false → A
-bad e = absurd (subst (λ (b : Bool). T b) e tt)
 
 pub more-hi : {s r : State} {j v : ℕ} → PutHi s j v r → v ≤ getD (s .hi) j 0 → More (view s) (view r)
 more-hi {s} {r} {j} {v} d le = let l : j < length (s .hi) = d .room in
@@ -73,7 +70,7 @@ module _ {Ok : Search → Type 0} {base : State} {k : ℕ} where
   }
 
   pub sooner-zero : {t : ℕ} {q : List ℕ} → t ≡ 0 → Sooner Ok base k t (record { found = false; starts = q })
-  sooner-zero e = record { found = λ x. bad (sym x); there = λ x. bad (sym x); less = λ x. bad (sym x); none = λ x P o Q l i h. omega arith }
+  sooner-zero e = record { found = λ x. absurd (false≢true x); there = λ x. absurd (false≢true x); less = λ x. absurd (false≢true x); none = λ x P o Q l i h. omega arith }
 
   pub sooner-is : {v : State} {r : Answer} (t : ℕ) → More (view base) (view v) → T (view v .inside k) → view v .hi k < t
       → ((P : Search) (Q : Plan) → Fits P Q (view base) → Has P Q k → Q k < t → Fits P Q (view v)) → Answers Ok v r → Sooner Ok base k t r
@@ -90,11 +87,6 @@ module _ {Ok : Search → Type 0} {base : State} {k : ℕ} where
   pub sooner-hi : {u v : State} {r : Answer} (t x : ℕ) → PutInside base k u → PutHi u k x v → x + 1 ≡ t → x ≤ view u .hi k → Answers Ok v r → Sooner Ok base k t r
   sooner-hi {u} {v} t x d e z le a = sooner-is t (more-trans (more-inside k d) (more-hi e le)) (more-hi e le .inside k (new-inside k d)) (omega (arith, new-hi e))
       (λ P Q f n y. fits-hi P Q (fits-inside P Q f k d n) e (omega arith)) a
-
-pub getD-any : (l : List ℕ) (j d e : ℕ) → j < length l → getD l j d ≡ getD l j e
-getD-any [] j d e h = absurd (omega arith)
-getD-any (x ∷ xs) zero d e h = refl
-getD-any (x ∷ xs) (suc j) d e h = getD-any xs j d e (omega arith)
 
 pub wf-of : {C A K S H : List ℕ} {ask : Ask} (P : Search) → Lent C A K S H ask P → InOrder (P .problem)
 wf-of P o = o .known .wf
@@ -149,7 +141,7 @@ module _ (Ok : Search → Type 0) (wf : (P : Search) → Ok P → InOrder (P .pr
   first-begin {r} a e P o = firsts.begin P (wf P o) (view root) (planOf (r .starts)) (a .found e P o .good) (fr P o)
 
   pub first-none : {r : Answer} → Answers Ok root r → r .found ≡ false → FirstOf Ok r
-  first-none a e = record { found = λ x. bad (sym x ∙ e); none = λ x P o Q g. a .none e P o Q (record { good = g; fits = fr P o Q g }) }
+  first-none a e = record { found = λ x. absurd (true≢false (sym x ∙ e)); none = λ x P o Q g. a .none e P o Q (record { good = g; fits = fr P o Q g }) }
 
   pub first-done : (base : State) (q : List ℕ) → Begins Ok n base q → FirstOf Ok (record { found = true; starts = q })
-  first-done base q b = record { found = λ x P o. firsts.finished P (wf P o) (view base) (planOf q) (subst (λ (y : ℕ). firsts.Prefix P y (view base) (planOf q)) (sym (cnt P o)) (b P o)); none = λ x. bad x }
+  first-done base q b = record { found = λ x P o. firsts.finished P (wf P o) (view base) (planOf q) (subst (λ (y : ℕ). firsts.Prefix P y (view base) (planOf q)) (sym (cnt P o)) (b P o)); none = λ x. absurd (true≢false x) }

@@ -3,11 +3,12 @@
 use mathlib.Core.Path.{_≡_, refl, sym, ap, _∙_, subst}
 use mathlib.Core.Logic.{inl, inr}
 use mathlib.Core.List.{List}
-use Prim.Native.Nat.{ℕ, _+_, _≤_, _<_, min}
+use Prim.Native.Nat.{ℕ, _+_, _≤_, min}
 use native.Mathlib.Omega.{arith}
-use native.Mathlib.Decide.{decLt}
-use lib.Dec.{ltb, lt→ltb}
+use lib.Dec.{ltb}
 use lib.ListN.{length, getD}
+use Rattle.facts.proofs.Lists.{getD-any}
+use Rattle.facts.proofs.Bools.{at-most}
 use Rattle.rules.specs.Refusals.{Verdict, accepted, refused}
 use Rattle.rules.specs.Table.{InOrder}
 use Rattle.rules.specs.Plans.{Plan}
@@ -19,32 +20,30 @@ use Rattle.tables.specs.declared.Loaded.{Loaded}
 use Rattle.tables.specs.declared.Ask.{Ask}
 use Rattle.tables.specs.declared.Answer.{Answer}
 use Rattle.tables.specs.Tables.{problem, answer, callChecks, filled, changed, Judges}
-use Rattle.tables.proofs.Laws.{said}
+use Rattle.tables.proofs.Laws.{said, changed-old, numbered}
 use Rattle.tables.proofs.Lent.{filled-same}
+use Rattle.tables.proofs.Calls.{call-checks, call-passed, long-enough}
 use Rattle.entries.specs.Entries.{entry}
 use Rattle.rules.specs.Estimates.{Estimates}
-use Rattle.entries.proofs.Laws.{changed-old}
-use Rattle.entries.proofs.Calls.{call-checks, call-passed, long-enough}
 use Rattle.search.specs.Leaf.{planOf}
 use Rattle.planning.specs.Derived.{Ready}
 use Rattle.planning.specs.Planning.{planningChecks, Plannable, PlansWithin, BoundsWithin}
-use Rattle.planning.proofs.Laws.{inside}
 
 pub planning-checks : (l : Loaded) (q : Ask) (room : ℕ) → Checks (planningChecks l q room)
 planning-checks l q room = then-checks (call-checks (ltb room (q .jobs)) l q) (bound-checks (q .bound))
+
+-- where they accept, they go on to what stands behind them
+pub planning-on : (l : Loaded) (q : Ask) (room : ℕ) → planningChecks l q room accepted .number ≡ 0 → (v : Verdict) → planningChecks l q room v ≡ v
+planning-on l q room z v = went-on (planningChecks l q room) (planning-checks l q room) z v
 
 -- what checks 3 to 9 give where they accept
 pub plannable : (l : Loaded) (q : Ask) (room : ℕ) → callChecks (ltb room (q .jobs)) l q accepted ≡ accepted → InOrder (problem l q) → q .bound ≤ 2880 → Plannable l q room
 plannable l q room e ok short = record {
   few = call-passed (ltb room (q .jobs)) l q e .count;
-  fits = go (decLt room (q .jobs));
+  fits = at-most room (q .jobs) (long-enough (ltb room (q .jobs)) l q e);
   order = ok;
   short = short;
 }
-  where
-    go : Dec (room < q .jobs) → q .jobs ≤ room
-    go (yes h) = absurd (long-enough (ltb room (q .jobs)) l q e (lt→ltb room (q .jobs) h))
-    go (no h) = omega arith
 
 -- ── enough time ──
 
@@ -76,17 +75,17 @@ module _ (l : Loaded) (q : Ask) (xs : List ℕ) where
 
   -- a starting table filled with the starts found
   starts-filled : (st ys : List ℕ) → length st ≡ 24 → q .jobs ≤ 24 → ys ≡ filled (entry st) (q .jobs) xs → ys ≡ filled (planOf st) (q .jobs) xs
-  starts-filled st ys n few e = e ∙ filled-same (entry st) (planOf st) (q .jobs) xs (λ i h. inside st i 0 65535 (omega arith))
+  starts-filled st ys n few e = e ∙ filled-same (entry st) (planOf st) (q .jobs) xs (λ i h. getD-any st i 0 65535 (omega arith))
 
   module _ {fault : Answer} (j : Judges (C accepted) (Plannable l q (length xs)) fault) where
     not-zero : (fault .number ≡ 0 → ⊥) → C accepted .number ≡ 0 → ⊥
-    not-zero n z = n (ap (λ (a : Answer). a .number) (j .says) ∙ z)
+    not-zero n z = n (numbered 0 0 (j .says) ∙ z)
 
     refuses-all : {A : Type 0} → (fault .number ≡ 0 → ⊥) → C accepted ≡ accepted → A
     refuses-all n e = absurd (not-zero n (ap (λ (v : Verdict). v .number) e))
 
     goes : fault .number ≡ 0 → (v : Verdict) → C v ≡ v
-    goes z v = went-on C (planning-checks l q (length xs)) (sym (ap (λ (a : Answer). a .number) (j .says)) ∙ z) v
+    goes z v = planning-on l q (length xs) (sym (numbered 0 0 (j .says)) ∙ z) v
 
     pub plans-refused : (fault .number ≡ 0 → ⊥) → PlansWithin l q xs fault xs
     plans-refused n = record {

@@ -1,19 +1,19 @@
 -- Laws of the tables that the search reads, of its first state, and of the loops above it.
 -- Assumes nothing.
 use mathlib.Core.Path.{_≡_, refl, sym, ap, subst, _∙_}
-use mathlib.Core.Logic.{_⊎_, ⊎-elim}
+use mathlib.Core.Logic.{⊎-elim}
 use mathlib.Core.Bool.{Bool, true, false, not}
-use mathlib.Core.List.{List, [], _∷_}
-use Prim.Native.Nat.{ℕ, zero, suc, _+_, _-_, _≤_, _<_}
+use mathlib.Core.List.{List}
+use Prim.Native.Nat.{ℕ, _+_, _-_, _≤_, _<_}
 use native.Mathlib.Omega.{arith}
 use lib.Dec.{T, eqb}
 use native.Mathlib.Numerals.{add-one}
-use lib.ListN.{getD, length, set, replicate, getD-replicate, length-replicate}
-use lib.Seq.{getD-set-same, getD-set-other}
+use lib.ListN.{getD, replicate, getD-replicate, length-replicate}
 use native.Mathlib.Decide.{decLt}
 use Rattle.facts.specs.Facts.{has, Decides}
 use Rattle.facts.proofs.Bools.{test-yes, test-no, below-suc, eqb-not, not-eqb, same}
 use Rattle.facts.proofs.Sets.{has-zero}
+use Rattle.facts.proofs.Lists.{getD-past}
 use Rattle.rules.specs.Table.{Problem, InOrder}
 use Rattle.rules.specs.Plans.{Plan, inPlan, Valid}
 use Rattle.rules.specs.Order.{NoPlan}
@@ -33,7 +33,6 @@ use Rattle.flaws.specs.declared.Ask.{Ask as Flaws}
 use Rattle.search.specs.Leaf.{Answers}
 use Rattle.search.specs.declared.Answer.{Answer}
 use Rattle.planner.specs.Planner.{FirstOf}
-use Rattle.search.proofs.Answers.{getD-past}
 use Rattle.planning.specs.Derived.{RootJob, Rooted, ByFact, AllHit, Ready, FitsAll, From, PlanAt, Later, LastEnd}
 
 -- a job that is not below n, and one that is
@@ -42,13 +41,6 @@ within-no l = record { yea = λ e. absurd (let z : _≡_ {A = Bool} true false =
 
 pub within-yes : {n j : ℕ} {r t : Bool} → j < n → r ≡ t → Decides r ((j < n) × T t)
 within-yes l e = record { yea = λ h. (l, test-yes e h); nay = λ h x. test-no e h (x .1) }
-
--- an entry more: what holds of each entry below k, and of the one written, holds below k + 1
-pub set-more : (A : ℕ → ℕ → Type 0) (t : List ℕ) (k v : ℕ) → k < length t → ((i : ℕ) → i < k → A i (getD t i 0)) → A k v → (i : ℕ) → i < k + 1 → A i (getD (set t k v) i 0)
-set-more A t k v l h x i m = ⊎-elim
-    (λ n. subst (λ (y : ℕ). A i y) (sym (getD-set-other t k i v 0 (λ e. omega arith))) (h i n))
-    (λ e. subst (λ (y : ℕ). A y (getD (set t k v) y 0)) (sym e) (subst (λ (y : ℕ). A k y) (sym (getD-set-same t k v 0 l)) x))
-    (below-suc i k (omega arith))
 
 -- a row of one number
 pub row-of : (n i v : ℕ) → (i < n → v ≡ 0) → getD (replicate n v) i 0 ≡ 0
@@ -184,12 +176,6 @@ unfolding sum
 sum-next f j = ap (λ (n : ℕ). sum f n) (sym (add-one j))
 
 -- ── ends ──
-
--- within a list the default does not matter
-pub inside : (l : List ℕ) (j d e : ℕ) → j < length l → getD l j d ≡ getD l j e
-inside [] j d e h = absurd (omega arith)
-inside (x ∷ xs) zero d e h = refl
-inside (x ∷ xs) (suc j) d e h = inside xs j d e (omega arith)
 
 pub end-next : (P : Problem) (s : Plan) (j e r start dur : ℕ) → s j ≡ start → P .duration j ≡ dur → LastEnd P s j e → Later start dur e r → LastEnd P s (j + 1) r
 unfolding inPlan

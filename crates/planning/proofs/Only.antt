@@ -1,30 +1,23 @@
 -- The promises of planning within a bound and of the least bound leave one result: the answer and all lent memory.
 -- Assumes nothing.
 use mathlib.Core.Path.{_≡_, sym, ap, _∙_}
-use mathlib.Core.Logic.{⊎-elim}
 use mathlib.Core.List.{List}
-use borrow.Author.Tests.{ne-eqb}
 use Prim.Native.Nat.{ℕ, _<_}
 use native.Mathlib.Decide.{ℕ-discrete}
 use native.Mathlib.Omega.{arith}
 use lib.ListN.{length}
 use Rattle.rules.specs.Refusals.{Verdict, accepted, Answers}
 use Rattle.rules.specs.Plans.{Plan}
-use Rattle.rules.proofs.Refused.{stopped, went-on}
+use Rattle.rules.proofs.Refused.{stopped, answers-yes}
 use Rattle.rules.proofs.Orders.{planned-only, bounded-only}
 use Rattle.tables.specs.declared.Loaded.{Loaded}
 use Rattle.tables.specs.declared.Ask.{Ask}
 use Rattle.tables.specs.declared.Answer.{Answer}
 use Rattle.tables.specs.Tables.{problem, answer, filled, changed}
-use Rattle.tables.proofs.Laws.{accepts}
+use Rattle.tables.proofs.Laws.{accepts, changed-old, answer-no}
 use Rattle.tables.proofs.Lent.{filled-same}
-use Rattle.entries.proofs.Laws.{changed-old}
 use Rattle.planning.specs.Planning.{planningChecks, PlansWithin, BoundsWithin}
-use Rattle.planning.proofs.Answers.{planning-checks}
-
--- a refusal returns the same whatever would be returned on success
-no-value : (v : Verdict) (b c : ℕ) → (v .number ≡ 0 → ⊥) → answer v b 65535 ≡ answer v c 65535
-no-value v b c n = simp (ne-eqb _ _ n)
+use Rattle.planning.proofs.Answers.{planning-checks, planning-on}
 
 module _ (l : Loaded) (q : Ask) (xs : List ℕ) where
   abbrev C : Verdict → Verdict
@@ -33,13 +26,6 @@ module _ (l : Loaded) (q : Ask) (xs : List ℕ) where
   -- where the checks refuse, what stands behind them is not looked at
   all-one : (C accepted .number ≡ 0 → ⊥) → (v w : Verdict) → C v ≡ C w
   all-one n v w = stopped C (planning-checks l q (length xs)) n v ∙ sym (stopped C (planning-checks l q (length xs)) n w)
-
-  goes : C accepted .number ≡ 0 → (v : Verdict) → C v ≡ v
-  goes z v = went-on C (planning-checks l q (length xs)) z v
-
-  -- of the two answers only that with a plan has number 0
-  accepting : {A N : Type 0} (v : Verdict) → Answers v A 10 N → v .number ≡ 0 → v ≡ accepted
-  accepting v a z = ⊎-elim (λ h. h .0) (λ h. let e : 10 ≡ 0 = sym (ap (λ (x : Verdict). x .number) (h .0)) ∙ z in absurd (omega arith)) a
 
   -- one verdict and, where it accepts, the same starts leave one table
   one-table : (v w : Verdict) (s z : Plan) → C v ≡ C w → (C w .number ≡ 0 → (i : ℕ) → i < q .jobs → s i ≡ z i)
@@ -57,7 +43,7 @@ module _ (l : Loaded) (q : Ask) (xs : List ℕ) where
   module _ (z : C accepted .number ≡ 0) {A N : Type 0} (v w : Verdict) (s t : Plan) (b : Answers w A 10 N) (e : v ≡ w)
       (h : v ≡ accepted → (i : ℕ) → i < q .jobs → s i ≡ t i) where
     passed-one : changed (C v) (filled s (q .jobs) xs) xs ≡ changed (C w) (filled t (q .jobs) xs) xs
-    passed-one = one-table v w s t (ap C e) (λ k. h (e ∙ accepting w b (ap (λ (x : Verdict). x .number) (sym (goes z w)) ∙ k)))
+    passed-one = one-table v w s t (ap C e) (λ k. h (e ∙ answers-yes 10 w (omega arith) b (ap (λ (x : Verdict). x .number) (sym (planning-on l q (length xs) z w)) ∙ k) .0))
 
   pub plan-within-only : (r s : Answer) (ys zs : List ℕ) → PlansWithin l q xs r ys → PlansWithin l q xs s zs → (r ≡ s) × (ys ≡ zs)
   plan-within-only r s ys zs a b = go (ℕ-discrete (C accepted .number) 0)
@@ -85,6 +71,6 @@ module _ (l : Loaded) (q : Ask) (xs : List ℕ) where
             a .leaves ∙ passed-one z (a .v) (b .v) (a .s) (b .s) (b .bounded ok) (o .0) (o .2) ∙ sym (b .leaves),
           )
       go (no n) = (
-        a .says ∙ ap (λ (v : Verdict). answer v (a .b) 65535) (all-one n (a .v) (b .v)) ∙ no-value (C (b .v)) (a .b) (b .b) (λ k. n (ap (λ (x : Verdict). x .number) (all-one n accepted (b .v)) ∙ k)) ∙ sym (b .says),
+        a .says ∙ ap (λ (v : Verdict). answer v (a .b) 65535) (all-one n (a .v) (b .v)) ∙ answer-no (C (b .v)) (a .b) (b .b) 65535 (λ k. n (ap (λ (x : Verdict). x .number) (all-one n accepted (b .v)) ∙ k)) ∙ sym (b .says),
         a .leaves ∙ refused-one n (a .v) (b .v) (a .s) (b .s) ∙ sym (b .leaves),
       )

@@ -18,10 +18,11 @@ use Rattle.orders.specs.declared.State.{State}
 use Rattle.orders.specs.View.{view, PutInside, PutBarred, AllTakes}
 use Rattle.flaws.specs.Flaw.{who, NoMay, Lack, Scene, Cols, Lists, Known}
 use Rattle.orders.proofs.Changes.{keeps-inside, keeps-barred, bit-cases}
-use Rattle.flaws.proofs.Flaws.{who-job, other-who, bit-none, bit-some, looked}
+use Rattle.flaws.proofs.Flaws.{who-job, other-who, looked}
 use Rattle.prune.specs.Prune.{Spares, StartOnly, StartAll, Single, MinIf, LeastOf, Told, Rule, WantsAll}
 use Rattle.flaws.specs.declared.Ask.{Ask}
 use Rattle.facts.proofs.Bools.{below-suc}
+use Rattle.facts.proofs.Sets.{some-fact, has-zero}
 use Rattle.states.proofs.Rules as rules
 
 pub killed : (P : Search) {s t r : State} → PutInside s 0 t → PutBarred t 0 r → Dead P (view s) → Keeps P (view s) (view r)
@@ -67,7 +68,7 @@ module _ (P : Search) (s : State) (b p : ℕ) (x : StartOnly P s b p) where
   start-out e d k = rules.start-bars P (x .wf) (view s) p (rw e at (x .forced)) d k
 
 pub single-is : {w d v e : ℕ} → Lack w 0 d → d < 24 → v ≡ bitOr 0 (2 ^ d) → Lack w v e → e ≡ 24 → Single w d
-single-is {w} {d} {v} l h z m q = record { within = omega arith; only = λ k i li b. ⊎-elim (λ y. absurd (bit-none i y)) (λ y. y) (bit-cases 0 d i (subst (λ (y : ℕ). T (has y i)) z (m .none q i li b))) }
+single-is {w} {d} {v} l h z m q = record { within = omega arith; only = λ k i li b. ⊎-elim (λ y. absurd (has-zero i y)) (λ y. y) (bit-cases 0 d i (subst (λ (y : ℕ). T (has y i)) z (m .none q i li b))) }
 
 pub single-none : {w : ℕ} → Single w 24
 single-none = record { within = omega arith; only = λ k. absurd (omega arith) }
@@ -89,7 +90,7 @@ module _ (P : Search) (s : State) (p b K w : ℕ) (t : Told P s p b K w) where
   pub no-may : w ≡ 0 → (MayStart P (view s) p (who b) → ⊥) → NoMay P s p b
   no-may e n start m = n m
   no-may e n nobody m = m
-  no-may e n (by a) m = bit-none a (subst (λ (y : ℕ). T (has y a)) e (t .cands .at a (omega (arith, m .below, t .count)) m))
+  no-may e n (by a) m = has-zero a (subst (λ (y : ℕ). T (has y a)) e (t .cands .at a (omega (arith, m .below, t .count)) m))
 
   pub only-one : {a : ℕ} → Single w a → a < 24 → (MayStart P (view s) p (who b) → ⊥) → T (there (view s) (who b)) → Spares P s b a p
   only-one {a} o l n h = record { wf = t .wf; here = h; forced = rules.only-job P (t .wf) (view s) (who b) p h (t .wants) a only }
@@ -105,11 +106,11 @@ module _ (P : Search) (s : State) (p b K w : ℕ) (t : Told P s p b K w) where
       only : (x : Support) → May P (view s) p (who b) x → x ≡ start
       only start m = refl
       only nobody m = absurd m
-      only (by c) m = absurd (bit-none c (subst (λ (y : ℕ). T (has y c)) e (t .cands .at c (omega (arith, m .below, t .count)) m)))
+      only (by c) m = absurd (has-zero c (subst (λ (y : ℕ). T (has y c)) e (t .cands .at c (omega (arith, m .below, t .count)) m)))
 
 module _ (P : Search) (s : State) (p b A G R : ℕ) (c : Scene P s p b A G R) where
   pub danger-bars : (G ≡ 0 → ⊥) → MayStart P (view s) p (who b) → ⊥
-  danger-bars n m = let i = bit-some G n in let g = c .dangers .of (i .0) (i .1) .1 in m .clear (i .0) (g .killer) (g .late)
+  danger-bars n m = let i = some-fact G n in let g = c .dangers .of (i .0) (i .1) .1 in m .clear (i .0) (g .killer) (g .late)
 
 pub there-job : (s : State) (b : ℕ) {r : Bool} → b < 24 → r ≡ has (s .inside) b → r ≡ there (view s) (who b)
 there-job s b {r} l e = subst (λ (v : Who). r ≡ there (view s) v) (sym (who-job b l)) e

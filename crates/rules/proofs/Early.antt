@@ -268,14 +268,15 @@ module _ (P : Problem) where
           let c : cost P e p ≤ cost P f p = omega (arith, cost-is P e p n, cost-is P f p n, cheapest-mono e f p (P .count) h) in
           omega (arith, condition-is P e p n, condition-is P f p n, plus-mono (cost P e p) (cost P f p) (P .gap) c)
 
-  dearest-mono : (e f : ℕ → ℕ) (i k : ℕ) → ((j : ℕ) → j < P .count → e j ≤ f j) → dearest P e i k ≤ dearest P f i k
+  -- lower estimates make no job dearer
+  pub dearest-mono : (e f : ℕ → ℕ) (i k : ℕ) → ((j : ℕ) → j < P .count → e j ≤ f j) → dearest P e i k ≤ dearest P f i k
   unfolding dearest
   dearest-mono e f i zero h = omega arith
   dearest-mono e f i (suc k) h =
       let r : dearest P e i k ≤ dearest P f i k = dearest-mono e f i k h in
       omega (arith, cond-mono (has (P .conditions i) k) _ _ 0 (condition-mono e f k h))
 
-  dearest-cap : (e : ℕ → ℕ) (i : ℕ) → dearest P e i 64 ≤ max 65535 (P .release i)
+  pub dearest-cap : (e : ℕ → ℕ) (i : ℕ) → dearest P e i 64 ≤ max 65535 (P .release i)
   dearest-cap e i = ⊎-elim (λ q. omega arith) (λ w. omega (arith, w .2, condition-cap P e (w .0))) (dearest-at P e i 64)
 
   abbrev round : (ℕ → ℕ) → ℕ → ℕ

@@ -1,15 +1,16 @@
 -- Laws of the answers.
 -- Assumes nothing.
-use mathlib.Core.Path.{_≡_, refl, sym, subst, _∙_}
+use mathlib.Core.Path.{_≡_, sym, subst, _∙_}
 use mathlib.Core.Logic.{_⊎_, inl, inr, ⊎-elim, _≢_}
-use mathlib.Core.Bool.{Bool, true, false}
-use mathlib.Core.List.{List, [], _∷_}
-use Prim.Native.Nat.{ℕ, zero, suc, _+_, _≤_, _<_}
+use mathlib.Core.Bool.{true, false, true≢false, false≢true}
+use mathlib.Core.List.{List}
+use Prim.Native.Nat.{ℕ, _+_, _≤_, _<_}
 use native.Mathlib.Omega.{arith}
 use native.Mathlib.Decide.{decLt, ℕ-discrete}
 use lib.Dec.{T}
 use lib.ListN.{getD, length}
 use Rattle.facts.specs.Facts.{has}
+use Rattle.facts.proofs.Lists.{getD-past}
 use Rattle.rules.specs.Plans.{Plan}
 use Rattle.rules.specs.Supports.{Support}
 use Rattle.states.specs.State.{Search, Dead, Keeps, Plans, Whole, Timed, Who, task, goal, Wants, there, Safe, Ahead}
@@ -28,14 +29,6 @@ use Rattle.search.proofs.Leaves.{start-yes, start-no}
 use Rattle.search.proofs.Repairs.{by-job, by-pair}
 use Rattle.states.proofs.Rules as rules
 use Rattle.states.proofs.Leaf as leaf
-
-bad : {A : Type 0} → _≡_ {A = Bool} true false → A
-bad e = absurd (subst (λ (b : Bool). T b) e tt)
-
-pub getD-past : (l : List ℕ) (j d : ℕ) → length l ≤ j → getD l j d ≡ d
-getD-past [] j d h = refl
-getD-past (x ∷ xs) zero d h = absurd (omega arith)
-getD-past (x ∷ xs) (suc j) d h = getD-past xs j d (omega arith)
 
 -- ── a leaf ──
 
@@ -103,10 +96,10 @@ strays P s c n Q l = n (λ j i. omega (arith, l .fits .stays .inside j i .below)
 
 module _ {Ok : Search → Type 0} where
   pub ans-none : {s : State} {q : List ℕ} → ((P : Search) → Ok P → Dead P (view s)) → Answers Ok s (record { found = false; starts = q })
-  ans-none h = record { found = λ e. bad (sym e); none = λ e. h }
+  ans-none h = record { found = λ e. absurd (false≢true e); none = λ e. h }
 
   pub ans-found : {s : State} {q : List ℕ} → ((P : Search) → Ok P → Plans P (view s) (planOf q)) → Answers Ok s (record { found = true; starts = q })
-  ans-found h = record { found = λ e. h; none = λ e. bad e }
+  ans-found h = record { found = λ e. h; none = λ e. absurd (true≢false e) }
 
   pub ans-back : (s t : State) {r : Answer} → ((P : Search) → Ok P → Keeps P (view s) (view t)) → Answers Ok t r → Answers Ok s r
   ans-back s t k a = record {
@@ -118,7 +111,7 @@ module _ {Ok : Search → Type 0} where
   pub ans-first : (R : Search → Plan → Type 0) (s t : State) {r : Answer} → Tries R s t → Answers Ok t r → r .found ≡ true → Answers Ok s r
   ans-first R s t d a h = record {
     found = λ e P o. plans-back (d .more) (a .found e P o);
-    none = λ e. bad (sym h ∙ e);
+    none = λ e. absurd (true≢false (sym h ∙ e));
   }
 
   -- the first found none, and the second answers
@@ -143,7 +136,7 @@ module _ {C A K S H : List ℕ} {ask : Ask} (some : Some (Lent C A K S H ask)) (
   }
 
   pub pruned-dead : ((P : Search) → Dead P (view t)) → PrunedTo (Lent C A K S H ask) S s (record { ok = false; state = t })
-  pruned-dead d = to (λ P l. keeps-refl _) (record { steady = λ e. bad (sym e); dead = λ e P l. d P })
+  pruned-dead d = to (λ P l. keeps-refl _) (record { steady = λ e. absurd (false≢true e); dead = λ e P l. d P })
 
   pub pruned-settled : {q : Settled} → SettledBy t S q → PrunedTo (Lent C A K S H ask) S s q
   pruned-settled d = to (λ P l. d .keeps P (l .known .wf) (l .tabled .steps)) (record { steady = d .steady; dead = λ e P l. d .dead e P (l .known .wf) (l .tabled .steps) })

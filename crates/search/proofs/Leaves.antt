@@ -1,15 +1,14 @@
 -- Laws of the leaves.
 -- Assumes nothing.
-use mathlib.Core.Path.{_≡_, refl, sym, subst, _∙_}
-use mathlib.Core.Logic.{⊎-elim, _≢_}
-use mathlib.Core.Bool.{Bool, true, false}
+use mathlib.Core.Path.{_≡_, refl, sym, subst}
+use mathlib.Core.Logic.{_≢_}
+use mathlib.Core.Bool.{Bool, true, false, true≢false, false≢true}
 use mathlib.Core.List.{List, [], _∷_}
-use Prim.Native.Nat.{ℕ, zero, suc, _+_, _-_, _≤_, _<_}
+use Prim.Native.Nat.{ℕ, zero, suc, _+_, _≤_, _<_}
 use native.Mathlib.Omega.{arith}
 use lib.Dec.{T, ltb, leb}
 use lib.ListN.{getD, set, length}
 use borrow.Author.Tests.{ltb-true, ltb-false, leb-true, leb-false}
-use lib.Seq.{getD-set-same, getD-set-other}
 use Rattle.facts.specs.Facts.{has, Decides}
 use Rattle.rules.specs.Plans.{Plan}
 use Rattle.rules.specs.Table.{InOrder}
@@ -22,11 +21,7 @@ use Rattle.orders.specs.View.{view, PutLo, Prunes, Takes, AllTakes}
 use Rattle.search.specs.Leaf.{Violated, Finds, Steady, room, Raised, SettledBy, Checks, startOf}
 use Rattle.orders.proofs.Changes.{keeps-lo}
 use Rattle.facts.proofs.Sets.{has-lt, below-pow}
-use Rattle.facts.proofs.Bools.{below-suc}
 use Rattle.states.proofs.Rules as rules
-
-bad : {A : Type 0} → _≡_ {A = Bool} true false → A
-bad e = absurd (subst (λ (b : Bool). T b) e tt)
 
 pub room-set : (l : List ℕ) (j v : ℕ) → j < length l → getD l j 0 < v → v < 65536 → room (set l j v) < room l
 unfolding room
@@ -56,8 +51,8 @@ module _ {s : State} {a b step : ℕ} (v : Violated s a b step) where
 
   pub raise-dead : getD (s .hi) b 0 < getD (s .lo) a 0 + step → Raised s a step (record { ok = false; state = s })
   raise-dead h = record {
-    keeps = λ e. bad (sym e);
-    less = λ e. bad (sym e);
+    keeps = λ e. absurd (false≢true e);
+    less = λ e. absurd (false≢true e);
     dead = λ e P wf t Q l. omega (arith, after P wf t Q l, l .fits .stays .hi b (l .fits .stays .inside b (v .second)));
   }
 
@@ -65,7 +60,7 @@ module _ {s : State} {a b step : ℕ} (v : Violated s a b step) where
   raise-more {r} {x} d z k = record {
     keeps = λ e P wf t. keeps-lo P b x d (omega (arith, v .late)) (λ Q l i. omega (arith, after P wf t Q l));
     less = λ e. subst (λ (y : State). room (y .lo) < room (s .lo)) (sym (d .is)) (room-set (s .lo) b x (d .room) (omega (arith, v .late)) k);
-    dead = λ e. bad e;
+    dead = λ e. absurd (true≢false e);
   }
 
 -- ── settling ──
@@ -77,19 +72,19 @@ pub settle-next : (S : List ℕ) (s t : State) (r : Settled) (a : ℕ) → a < 2
 settle-next S s t₀ r a l p d e P wf t = keeps-trans (p P wf t) (d .keeps e P wf (t a l))
 
 pub settle-dead : {S : List ℕ} {s t : State} {r : Settled} (a : ℕ) → a < 24 → Prunes (AllTakes S) s t → Raised t a (getD S a 0) r → r .ok ≡ false → SettledBy s S (record { ok = false; state = t })
-settle-dead a l p d e = record { keeps = p; steady = λ x. bad (sym x); dead = λ x P wf t. d .dead e P wf (t a l) }
+settle-dead a l p d e = record { keeps = p; steady = λ x. absurd (false≢true x); dead = λ x P wf t. d .dead e P wf (t a l) }
 
 pub settle-done : {S : List ℕ} {s t : State} → Prunes (AllTakes S) s t → Steady t S 24 → SettledBy s S (record { ok = true; state = t })
-settle-done p h = record { keeps = p; steady = λ e. h; dead = λ e. bad e }
+settle-done p h = record { keeps = p; steady = λ e. h; dead = λ e. absurd (true≢false e) }
 
 -- ── checks ──
 
 module _ {Ok : Search → Type 0} {s : State} {X : Type 0} where
   pub checks-fine : X → Checks Ok s true X
-  checks-fine h = record { fine = λ e. h; dead = λ e. bad e }
+  checks-fine h = record { fine = λ e. h; dead = λ e. absurd (true≢false e) }
 
   pub checks-dead : ((P : Search) → Ok P → Dead P (view s)) → Checks Ok s false X
-  checks-dead h = record { fine = λ e. bad (sym e); dead = λ e. h }
+  checks-dead h = record { fine = λ e. absurd (false≢true e); dead = λ e. h }
 
   pub checks-le : (x y : ℕ) → (x ≤ y → X) → (y < x → (P : Search) → Ok P → Dead P (view s)) → Checks Ok s (leb x y) X
   checks-le x y f g = record { fine = λ e. f (leb-true x y e); dead = λ e. g (leb-false x y e) }
@@ -110,9 +105,3 @@ start-yes false v h = absurd h
 pub start-no : (x : Bool) (v : ℕ) → (T x → ⊥) → 65535 ≡ startOf x v
 start-no true v h = absurd (h tt)
 start-no false v h = refl
-
-pub set-more : (q : List ℕ) (j v : ℕ) (f : ℕ → ℕ) → j < length q → ((i : ℕ) → i < j → getD q i 65535 ≡ f i) → v ≡ f j → (i : ℕ) → i < j + 1 → getD (set q j v) i 65535 ≡ f i
-set-more q j v f l h e i k = ⊎-elim
-    (λ m. getD-set-other q j i v 65535 (λ z. omega arith) ∙ h i m)
-    (λ m. subst (λ (y : ℕ). getD (set q j v) y 65535 ≡ f y) (sym m) (getD-set-same q j v 65535 l ∙ e))
-    (below-suc i j (omega arith))

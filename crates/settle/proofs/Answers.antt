@@ -13,10 +13,8 @@ use Rattle.tables.specs.declared.Loaded.{Loaded}
 use Rattle.tables.specs.declared.Ask.{Ask}
 use Rattle.tables.specs.declared.Answer.{Answer}
 use Rattle.tables.specs.Tables.{problem, answer, filled, Judges}
-use Rattle.tables.proofs.Laws.{said}
+use Rattle.tables.proofs.Laws.{said, numbered, changed-new, changed-old}
 use Rattle.entries.specs.Entries.{entry}
-use Rattle.entries.proofs.Laws.{changed-new, changed-old}
-use Rattle.entries.proofs.Calls.{numbered}
 use Rattle.times.specs.declared.Outcome.{Outcome}
 use Rattle.times.specs.Times.{wanted, asks, Found}
 use Rattle.settle.specs.Settle.{checks, Sound, Settling}

@@ -5,10 +5,10 @@ use mathlib.Core.Bool.{Bool, not, _&&_, _||_}
 use mathlib.Core.List.{List}
 use Prim.Native.Nat.{ℕ, _/_, _≤_, _<_}
 use native.Mathlib.Omega.{arith}
-use lib.Dec.{T, ltb, ltb→lt, nltb→le, lt→ltb, not-T}
+use lib.Dec.{T, ltb, ltb→lt, lt→ltb}
 use lib.ListN.{length}
 use Rattle.facts.specs.Facts.{has}
-use Rattle.facts.proofs.Bools.{or-l, or-r}
+use Rattle.facts.proofs.Bools.{or-l, or-r, at-most}
 use Rattle.rules.specs.Refusals.{Verdict, accepted, refused}
 use Rattle.rules.specs.Table.{Problem, InOrder, boundCheck, strays}
 use Rattle.rules.specs.Settling.{settleChecks}
@@ -17,8 +17,8 @@ use Rattle.tables.specs.declared.Loaded.{Loaded}
 use Rattle.tables.specs.declared.Ask.{Ask}
 use Rattle.tables.specs.declared.Answer.{Answer}
 use Rattle.tables.specs.Tables.{problem, answer, callChecks, Judges}
-use Rattle.tables.proofs.Laws.{said, judges-no}
-use Rattle.entries.proofs.Calls.{call-checks, numbered, accepts-by, long-enough, call-passed}
+use Rattle.tables.proofs.Laws.{said, judges-no, numbered}
+use Rattle.tables.proofs.Calls.{call-checks, accepts-by, long-enough, call-passed}
 use Rattle.times.specs.Times.{first, second, Ready}
 use Rattle.settle.specs.Settle.{checks, Sound}
 
@@ -65,7 +65,7 @@ module _ (l : Loaded) (q : Ask) (bytes : List ℕ) (room : ℕ) where
       few = call-passed short l q passed-call .count
 
       pub lent : q .pairs ≤ length bytes / 2
-      lent = nltb→le (length bytes / 2) (q .pairs) (not-T (ltb (length bytes / 2) (q .pairs)) (λ x. long (or-r (ltb room (q .jobs)) _ x)))
+      lent = at-most (length bytes / 2) (q .pairs) (λ x. long (or-r (ltb room (q .jobs)) _ x))
 
       pub bound-refused : {B : Type 0} {r : Answer} → r ≡ answer (refused 9 0) 0 0 → 2880 < q .bound → Judges (checks l q bytes room accepted) B r
       unfolding boundCheck
@@ -79,6 +79,6 @@ module _ (l : Loaded) (q : Ask) (bytes : List ℕ) (room : ℕ) where
         order = λ n. record {
           ready = g .order n;
           order = j .order z;
-          wide = nltb→le room (q .jobs) (not-T (ltb room (q .jobs)) (λ x. long (or-l (ltb room (q .jobs)) _ x)));
+          wide = at-most room (q .jobs) (λ x. long (or-l (ltb room (q .jobs)) _ x));
         };
       }

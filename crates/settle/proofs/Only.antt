@@ -22,8 +22,8 @@ use Rattle.tables.specs.declared.Ask.{Ask}
 use Rattle.tables.specs.declared.Answer.{Answer}
 use Rattle.tables.specs.Tables.{problem, answer, filled, changed, callChecks}
 use Rattle.tables.proofs.Lent.{filled-same}
-use Rattle.entries.proofs.Laws.{changed-old}
-use Rattle.entries.proofs.Calls.{call-checks}
+use Rattle.tables.proofs.Calls.{call-checks}
+use Rattle.tables.proofs.Laws.{changed-old}
 use Rattle.times.specs.Times.{first, second, wanted}
 use Rattle.settle.specs.Settle.{checks, Settling}
 use Rattle.settle.proofs.Faults.{short, all-checks}

@@ -1,20 +1,16 @@
 -- A state without a flaw gives a plan, and a flaw has a choice that is undecided.
 -- Assumes nothing.
 use mathlib.Core.Logic.{_⊎_, inl, inr, _≢_, ⊎-elim}
-use mathlib.Core.Bool.{Bool, true, false}
 use Prim.Native.Nat.{ℕ, _+_, _≤_, _<_}
 use native.Mathlib.Omega.{arith}
 use lib.Dec.{T, eqb, eqb→eq, T-not, not-T}
 use borrow.Author.Tests.{eq-eqb}
+use Rattle.facts.proofs.Bools.{T?}
 use Rattle.rules.specs.Table.{deletes, InOrder}
 use Rattle.rules.specs.Plans.{Plan, inPlan, finish, Apart}
 use Rattle.rules.specs.Supports.{Support, start, nobody, by}
 use Rattle.rules.proofs.Supported.{Supports, valid}
 use Rattle.states.specs.State.{Search, Has, Ahead, St, Left, Dead, Who, task, goal, there, consumer, Other, serves, useless, done, late, Killer, MayStart, MayJob, Safe, Whole, Runs, Timed, Soonest, OpenPair, OpenJob, OpenWith, OpenFor, Plans}
-
-T? : (b : Bool) → T b ⊎ (T b → ⊥)
-T? true = inl tt
-T? false = inr (λ x. x)
 
 module _ (P : Search) (wf : InOrder (P .problem)) (small : P .bound < 65535) (s : St) (h : Whole P s) (z : Plan) (t : Timed P s z) where
   put : (j : ℕ) → T (s .inside j) → Has P z j

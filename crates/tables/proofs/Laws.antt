@@ -1,11 +1,12 @@
--- What the tests of words and numbers in the code say of the checks.
+-- What the tests of words and numbers in the code say of the checks, and what an answer says of its verdict.
 -- Assumes nothing.
 use mathlib.Core.Path.{_≡_, refl, sym, _∙_, ap}
 use mathlib.Core.Bool.{Bool, true, false, not, cond, _&&_}
+use mathlib.Core.List.{List}
 use Prim.Native.Nat.{ℕ, zero, suc, _/_, _^_, _≤_, _<_}
 use native.Mathlib.Omega.{arith}
 use native.Mathlib.Decide.{decLt}
-use borrow.Author.Tests.{ne-eqb, lt-leb}
+use borrow.Author.Tests.{eq-eqb, ne-eqb, lt-leb}
 use lib.Dec.{T, eqb, leb, ltb, leb→le, le→leb, ltb→lt, lt→ltb, T-not, not-T}
 use Rattle.facts.proofs.Bools.{and-r, and-of, same, decides-neb, decides-test}
 use Rattle.facts.proofs.Sets.{high-and}
@@ -14,7 +15,7 @@ use Rattle.rules.specs.Table.{between, strays}
 use Rattle.rules.proofs.Refused.{Checks, went-on}
 use Rattle.rules.proofs.Checked.{strays-fact}
 use Rattle.tables.specs.declared.Answer.{Answer}
-use Rattle.tables.specs.Tables.{answer, Judges}
+use Rattle.tables.specs.Tables.{answer, changed, Judges}
 
 -- no fact of a word of 64 bits is at 64 or above
 pub strays-none : (w : ℕ) → w < 2 ^ 64 → false ≡ strays 64 w
@@ -53,3 +54,20 @@ judges-no {n = n} e h l = record { says = e ∙ said 0 0 h; order = λ z. let o 
 -- a list of checks that says 0 accepts
 pub accepts : {C : Verdict → Verdict} → Checks C → C accepted .number ≡ 0 → C accepted ≡ accepted
 accepts {C} k z = went-on C k z accepted
+
+-- ── what an answer says of its verdict ──
+
+-- an answer has the number of its verdict
+pub numbered : {v : Verdict} {r : Answer} (yea nay : ℕ) → r ≡ answer v yea nay → r .number ≡ v .number
+numbered yea nay e = ap (λ (x : Answer). x .number) e
+
+-- a refusal returns the same whatever would be returned on success
+pub answer-no : (v : Verdict) (yea else nay : ℕ) → (v .number ≡ 0 → ⊥) → answer v yea nay ≡ answer v else nay
+answer-no v yea else nay n = simp (ne-eqb _ _ n)
+
+-- a verdict that accepts changes lent memory, another leaves it
+pub changed-new : (v : Verdict) (new old : List ℕ) → v .number ≡ 0 → changed v new old ≡ new
+changed-new v new old e = ap (λ (b : Bool). cond b new old) (eq-eqb (v .number) 0 e)
+
+pub changed-old : (v : Verdict) (new old : List ℕ) → (v .number ≡ 0 → ⊥) → changed v new old ≡ old
+changed-old v new old n = ap (λ (b : Bool). cond b new old) (ne-eqb (v .number) 0 n)

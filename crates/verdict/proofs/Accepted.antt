@@ -6,37 +6,27 @@ use mathlib.Core.Bool.{Bool, _||_}
 use mathlib.Core.List.{List}
 use Prim.Native.Nat.{ℕ, _≤_, _<_}
 use native.Mathlib.Omega.{arith}
-use native.Mathlib.Decide.{decLt}
 use lib.Dec.{T, ltb, ltb→lt, lt→ltb}
 use lib.ListN.{length}
-use Rattle.facts.proofs.Bools.{or-cases, or-l, or-r}
+use Rattle.facts.proofs.Bools.{or-cases, or-l, or-r, at-most}
 use Rattle.rules.specs.Refusals.{Verdict, accepted, refused}
 use Rattle.rules.specs.Table.{InOrder, tableChecks, boundCheck}
 use Rattle.rules.specs.Plans.{starts, Valid}
 use Rattle.rules.specs.Verdicts.{planChecks}
-use Rattle.rules.proofs.Refused.{Checks, if-pass, if-hit, if-zero, if-checks, then-checks, table-checks, bound-checks, plan-checks, stopped, went-on}
-use Rattle.rules.proofs.Checked.{passed, in-order}
+use Rattle.rules.proofs.Refused.{Checks, if-pass, if-hit, if-zero, then-checks, table-checks, bound-checks, plan-checks, stopped, went-on, goes-on}
+use Rattle.rules.proofs.Checked.{in-order}
 use Rattle.rules.proofs.Judged.{judged}
 use Rattle.tables.specs.declared.Loaded.{Loaded}
 use Rattle.tables.specs.declared.Ask.{Ask}
 use Rattle.tables.specs.declared.Answer.{Answer}
 use Rattle.tables.specs.Tables.{problem, answer, callChecks, Judges}
-use Rattle.tables.proofs.Laws.{said}
+use Rattle.tables.proofs.Laws.{said, accepts, numbered}
+use Rattle.tables.proofs.Calls.{call-checks, long-enough, call-passed}
 use Rattle.verdict.specs.Offered.{offered, Offered}
-
-pub call-checks : (short : Bool) (l : Loaded) (q : Ask) → Checks (callChecks short l q)
-call-checks short l q = then-checks (if-checks (short || ltb (l .lent) (q .jobs)) 3 0 (omega arith)) (table-checks (problem l q))
 
 -- the checks 3 to 9 and 11 to 14 are one list of checks
 pub offered-checks : (short : Bool) (l : Loaded) (q : Ask) (s : List ℕ) → Checks (offered short l q s)
 offered-checks short l q s = then-checks (call-checks short l q) (then-checks (bound-checks (q .bound)) (plan-checks (problem l q) (q .bound) (starts s)))
-
-pub at-most : (m n : ℕ) → (T (ltb n m) → ⊥) → m ≤ n
-at-most m n h = go (decLt n m)
-  where
-    go : Dec (n < m) → m ≤ n
-    go (yes l) = absurd (h (lt→ltb n m l))
-    go (no l) = omega arith
 
 -- every plan is released: 01 knows no release
 judge : (l : Loaded) (q : Ask) (s : List ℕ) → InOrder (problem l q)
@@ -54,7 +44,7 @@ module _ (short : Bool) (l : Loaded) (q : Ask) (s : List ℕ) {few : Bool} {A : 
   rest = boundCheck (q .bound) (planChecks (problem l q) (q .bound) (starts s) accepted)
 
   number : t .number ≡ callChecks few l q accepted .number
-  number = ap (λ (x : Answer). x .number) (table .says)
+  number = numbered 0 0 (table .says)
 
   whole : callChecks few l q rest ≡ verdict
   unfolding verdict rest
@@ -75,9 +65,9 @@ module _ (short : Bool) (l : Loaded) (q : Ask) (s : List ℕ) {few : Bool} {A : 
     -- what checks 3 to 5 leave
     pub bounds : (T short → ⊥) × (q .jobs ≤ length s) × (q .jobs ≤ 24)
     bounds =
-        let a = if-zero (few || ltb (l .lent) (q .jobs)) 3 0 _ (omega arith) (went-on (callChecks few l q) (call-checks few l q) (sym number ∙ zero) accepted) in
-        let no : T (short || ltb (length s) (q .jobs)) → ⊥ = λ h. a .0 (or-l few _ (subst T (sym said-few) h)) in
-        (λ h. no (or-l short _ h), at-most (q .jobs) (length s) (λ h. no (or-r short _ h)), passed (problem l q) (a .1) .count)
+        let e = accepts (call-checks few l q) (sym number ∙ zero) in
+        let no : T (short || ltb (length s) (q .jobs)) → ⊥ = λ h. long-enough few l q e (subst T (sym said-few) h) in
+        (λ h. no (or-l short _ h), at-most (length s) (q .jobs) (λ h. no (or-r short _ h)), call-passed few l q e .count)
 
     -- the bound is refused
     pub refuses-bound : {r : Answer} → 2880 < q .bound → r ≡ answer (refused 9 0) 0 0 → Offered short l q s r
@@ -105,11 +95,6 @@ module _ (short : Bool) (l : Loaded) (q : Ask) (s : List ℕ) {few : Bool} {A : 
 
 -- ── exactly these plans are accepted ──
 
--- a list of checks that accepts goes on, whatever comes behind it
-pub goes-on : (C : Verdict → Verdict) → Checks C → (x : Verdict) → C x ≡ accepted → (v : Verdict) → C v ≡ v
-goes-on C (inl (u, ne, e)) x h v = absurd (ne (ap (λ (y : Verdict). y .number) (sym (e x) ∙ h)))
-goes-on C (inr e) x h v = e v
-
 -- the answer's number is 0 exactly when lent memory is long enough, the table is in order by checks 4 to 9 and the plan is valid
 pub exactly : (l : Loaded) (q : Ask) (s : List ℕ) (r : Answer) → r ≡ answer (offered (ltb (length s) (q .jobs)) l q s accepted) 0 0
     → (r .number ≡ 0)
@@ -124,8 +109,8 @@ exactly l q s r e = (there, back)
         let a = if-zero (ltb (length s) (q .jobs) || ltb (l .lent) (q .jobs)) 3 0 _ (omega arith) all in
         let on = goes-on (tableChecks (problem l q)) (table-checks (problem l q)) _ (a .1) in
         let c = if-zero (ltb 2880 (q .bound)) 9 0 _ (omega arith) (sym (on _) ∙ a .1) in (
-          at-most (q .jobs) (length s) (λ h. a .0 (or-l (ltb (length s) (q .jobs)) _ h)),
-          at-most (q .jobs) (l .lent) (λ h. a .0 (or-r (ltb (length s) (q .jobs)) _ h)),
+          at-most (length s) (q .jobs) (λ h. a .0 (or-l (ltb (length s) (q .jobs)) _ h)),
+          at-most (l .lent) (q .jobs) (λ h. a .0 (or-r (ltb (length s) (q .jobs)) _ h)),
           on _ ∙ if-pass (ltb 2880 (q .bound)) 9 0 _ (c .0),
           judge l q s (in-order (problem l q) (on accepted)) .0 (c .1),
         )

@@ -1,6 +1,6 @@
 -- The facts from finish to finish, and the tests of two jobs as the code makes them.
 -- Assumes nothing.
-use mathlib.Core.Path.{_≡_, refl, sym, ap, ap₂, _∙_, fun-ext}
+use mathlib.Core.Path.{_≡_, refl, sym, ap, ap₂, _∙_}
 use mathlib.Core.Logic.{_⊎_, inl, inr}
 use mathlib.Core.Bool.{Bool, true, false, not, _&&_, _||_}
 use Prim.Native.Nat.{ℕ, zero, suc, _+_, _-_, _≤_, _<_}
@@ -13,8 +13,8 @@ use lib.ListN.{getD}
 use mathlib.Core.List.{List}
 use Rattle.facts.specs.Facts.{has, Word}
 use Rattle.facts.specs.Least.{least, any}
-use Rattle.facts.proofs.Bools.{and-l, and-r, or-at, same, or-first}
-use Rattle.facts.proofs.Least.{least-is, any-at}
+use Rattle.facts.proofs.Bools.{and-l, and-r, or-at, or-first}
+use Rattle.facts.proofs.Least.{least-is, least-same}
 use Rattle.rules.specs.Table.{Problem}
 use Rattle.rules.specs.Plans.{Plan, starts, In, inPlan, finish, interfere, ends, afterIf, finishes, holds}
 use Rattle.rules.specs.Verdicts.{overlap, unready}
@@ -77,23 +77,12 @@ finishes-more P s p t i b h k m = h ∙ ap₂ (λ (now before : Bool). afterIf n
 
 -- ── tests ──
 
-pub passes : (b : Bool) → T b → true ≡ b
-passes true h = refl
-passes false h = absurd h
-
--- the same test at every place has the same lowest place
-pub least-same : (f g : ℕ → Bool) (n : ℕ) → ((p : ℕ) → f p ≡ g p) → least f n ≡ least g n
-least-same f g n h = ap (λ (x : ℕ → Bool). least x n) (fun-ext h)
-
 -- a search that stops at i, or at the end
 pub found : (f : ℕ → Bool) (n i : ℕ) → i < n → T (f i) → ((k : ℕ) → k < i → T (f k) → ⊥) → i ≡ least f n
 found f n i l x q = least-is f n i (record { within = omega arith; hit = λ h. x; first = q })
 
 pub not-found : (f : ℕ → Bool) (n i : ℕ) → n ≤ i → ((k : ℕ) → k < i → T (f k) → ⊥) → n ≡ least f n
 not-found f n i l q = least-is f n n (record { within = omega arith; hit = λ h. absurd (omega arith); first = λ k h. q k (omega arith) })
-
-pub any-none : (f : ℕ → Bool) (n : ℕ) → ((i : ℕ) → i < n → T (f i) → ⊥) → false ≡ any f n
-any-none f n q = same false (any f n) (λ x. absurd x) (λ h. let y = any-at f n h in q (y .0) (y .1) (y .2))
 
 -- the tests of an overlap, job by job
 pub regroup : (a b x y z : Bool) → ((a && x) && (b && y)) && z ≡ (a && (b && (x && (y && z))))
@@ -117,7 +106,7 @@ overlap-of l q s i j =
 
 -- what is wanted and not in the word of facts at a time is what is wanted and does not hold then
 pub lacking-same : (f : ℕ → Bool) (want have : ℕ) → Word f have → least (λ p. has want p && not (has have p)) 64 ≡ least (λ p. has want p && not (f p)) 64
-lacking-same f want have h = least-same _ _ 64 (λ p. ap (λ (b : Bool). has want p && not b) (h p))
+lacking-same f want have h = least-same _ _ 64 (λ p l. ap (λ (b : Bool). has want p && not b) (h p))
 
 -- a job in the plan is not ready where a condition is not among the facts at its start
 pub unready-of : (l : Loaded) (q : Ask) (s : List ℕ) (i r w : ℕ) → (getD s i 0 ≡ 65535 → ⊥) → FactsAt (problem l q) (starts s) (getD s i 0) w

@@ -6,10 +6,10 @@ use borrow.Author.Needs.{needs}
 use borrow.Author.Tests.{ne-eqb}
 use lib.ListN.{length, getD, length-set}
 use Rattle.facts.specs.Facts.{has}
+use Rattle.facts.proofs.Lists.{set-more}
 use Rattle.rules.specs.Pairs.{feeds}
 use Rattle.rules.specs.Plans.{starts, inPlan}
 use Rattle.tables.specs.Tables.{problem}
-use Rattle.named.proofs.Tests.{set-below}
 use Rattle.bindings.proofs.Bytes.{feeds-of}
 use Rattle.bindings.proofs.all_feeders.Statement.{statement}
 use Rattle.bindings.proofs.all_feeders.Tie as tie
@@ -42,7 +42,7 @@ loop-less : tie.Need-loop-less Inv-loop μ-loop
 loop-less c = search needs
 
 loop-again : tie.Need-loop-again Inv-loop μ-loop
-loop-again c = (omega arith, length-set (c .before .before .before .loop .of) (c .before .before .before .loop .b) _ ∙ c .before .before .before .loop .inv .1, set-below (λ k w. (a : ℕ) → a < c .before .before .before .before .before .args .q .jobs → has w a ≡ (inPlan (starts (c .before .before .before .before .before .args .s .now)) k && feeds (problem (c .before .before .before .before .before .args .l) (c .before .before .before .before .before .args .q)) (starts (c .before .before .before .before .before .args .s .now)) a k)) (c .before .before .before .loop .of) (c .before .before .before .loop .b) _ (omega arith) (c .before .before .before .loop .inv .2) (λ a h. c .givers .ensures a h ∙ feeds-of (problem (c .before .before .before .before .before .args .l) (c .before .before .before .before .before .args .q)) (c .before .before .before .before .before .args .q .bound) (starts (c .before .before .before .before .before .args .s .now)) (c .before .before .before .loop .b) a (c .before .row-of .result) _ (ne-eqb (c .before .before .before .loop .b) (c .before .before .before .before .before .args .q .jobs) (λ e. omega arith)) (c .before .row-of .ensures) h))
+loop-again c = (omega arith, length-set (c .before .before .before .loop .of) (c .before .before .before .loop .b) _ ∙ c .before .before .before .loop .inv .1, set-more (λ k w. (a : ℕ) → a < c .before .before .before .before .before .args .q .jobs → has w a ≡ (inPlan (starts (c .before .before .before .before .before .args .s .now)) k && feeds (problem (c .before .before .before .before .before .args .l) (c .before .before .before .before .before .args .q)) (starts (c .before .before .before .before .before .args .s .now)) a k)) (c .before .before .before .loop .of) (c .before .before .before .loop .b) _ 0 (omega arith) (c .before .before .before .loop .inv .2) (λ a h. c .givers .ensures a h ∙ feeds-of (problem (c .before .before .before .before .before .args .l) (c .before .before .before .before .before .args .q)) (c .before .before .before .before .before .args .q .bound) (starts (c .before .before .before .before .before .args .s .now)) (c .before .before .before .loop .b) a (c .before .row-of .result) _ (ne-eqb (c .before .before .before .loop .b) (c .before .before .before .before .before .args .q .jobs) (λ e. omega arith)) (c .before .row-of .ensures) h))
 
 returns : tie.Need-returns Inv-loop μ-loop
 returns c = λ b a h. c .before .loop .inv .2 b (omega arith) a

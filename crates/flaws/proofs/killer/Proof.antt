@@ -1,6 +1,6 @@
 use borrow.Author.Needs.{needs}
 use native.Mathlib.Omega.{arith}
-use Rattle.orders.proofs.Tests.{passed, failed, taken, left}
+use Rattle.orders.proofs.Tests.{passed, failed}
 use Rattle.flaws.proofs.Flaws as fl
 use Rattle.flaws.proofs.killer.Statement.{statement}
 use Rattle.flaws.proofs.killer.Tie as tie

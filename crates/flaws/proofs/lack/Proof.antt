@@ -3,7 +3,6 @@ use Prim.Native.Nat.{ℕ, _-_, _<_, _≤_}
 use lib.Dec.{T}
 use borrow.Author.Needs.{needs}
 use borrow.Author.Count.{below-more}
-use Rattle.orders.proofs.Tests.{taken, left}
 use Rattle.facts.specs.Facts.{has}
 use Rattle.flaws.proofs.Flaws as fl
 use Rattle.flaws.proofs.lack.Statement.{statement}

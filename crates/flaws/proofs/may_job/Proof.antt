@@ -1,7 +1,8 @@
 use borrow.Author.Needs.{needs}
 use native.Mathlib.Omega.{arith}
-use Rattle.orders.proofs.Tests.{passed, failed, taken, left}
+use Rattle.orders.proofs.Tests.{passed, failed}
 use Rattle.facts.specs.Facts.{has}
+use Rattle.facts.proofs.Bools.{test-yes, test-no}
 use Rattle.flaws.proofs.Flaws as fl
 use Rattle.flaws.proofs.may_job.Statement.{statement}
 use Rattle.flaws.proofs.may_job.Tie as tie
@@ -19,13 +20,13 @@ has-requires-2 : tie.Need-has-requires-2
 has-requires-2 c κs = search needs
 
 returns-3 : tie.Need-returns-3
-returns-3 c P p R k = fl.says-no (λ m. m .free (taken (c .before .has2 .ensures) (c .if3 .taken)))
+returns-3 c P p R k = fl.says-no (λ m. m .free (test-yes (c .before .has2 .ensures) (c .if3 .taken)))
 
 useless-for-requires : tie.Need-useless-for-requires
 useless-for-requires c κs = search needs
 
 returns-4 : tie.Need-returns-4
-returns-4 c P p R k = fl.says-no (λ m. m .before (taken (c .before .useless-for .ensures) (c .if4 .taken)))
+returns-4 c P p R k = fl.says-no (λ m. m .before (test-yes (c .before .useless-for .ensures) (c .if4 .taken)))
 
 mul-n : tie.Need-mul-n
 mul-n c = search needs
@@ -34,7 +35,7 @@ element-copy-out-n : tie.Need-element-copy-out-n
 element-copy-out-n c = search needs
 
 returns-5 : tie.Need-returns-5
-returns-5 c P p R k = fl.may-is P (c .before .before .before .before .before .before .before .before .args .t1) p (c .before .before .before .before .before .before .before .before .args .b) (c .before .before .before .before .before .before .before .before .args .a) (c .before .before .before .before .before .before .before .before .args .adders) (c .before .before .before .before .before .before .before .before .args .dang) R k (c .before .before .before .before .before .before .before .if1 .left) (passed (c .before .before .before .before .before .before .has .ensures) (c .before .before .before .before .before .if2 .left)) (left (c .before .before .before .before .has2 .ensures) (c .before .before .before .if3 .left)) (left (c .before .before .useless-for .ensures) (c .before .if4 .left))
+returns-5 c P p R k = fl.may-is P (c .before .before .before .before .before .before .before .before .args .t1) p (c .before .before .before .before .before .before .before .before .args .b) (c .before .before .before .before .before .before .before .before .args .a) (c .before .before .before .before .before .before .before .before .args .adders) (c .before .before .before .before .before .before .before .before .args .dang) R k (c .before .before .before .before .before .before .before .if1 .left) (passed (c .before .before .before .before .before .before .has .ensures) (c .before .before .before .before .before .if2 .left)) (test-no (c .before .before .before .before .has2 .ensures) (c .before .before .before .if3 .left)) (test-no (c .before .before .useless-for .ensures) (c .before .if4 .left))
 
 pub may-job-spec : {M : Type 1} → statement M
 may-job-spec =

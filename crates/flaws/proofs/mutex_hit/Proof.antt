@@ -1,5 +1,5 @@
 use borrow.Author.Needs.{needs}
-use Rattle.orders.proofs.Tests.{passed, failed, taken, left}
+use Rattle.orders.proofs.Tests.{passed, failed}
 use Rattle.facts.specs.Facts.{has}
 use Rattle.flaws.proofs.Flaws as fl
 use Rattle.flaws.proofs.mutex_hit.Statement.{statement}

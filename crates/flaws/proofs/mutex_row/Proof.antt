@@ -3,7 +3,6 @@ use Prim.Native.Nat.{_-_, _≤_}
 use borrow.Author.Needs.{needs}
 use borrow.Author.Count.{below-more}
 use Rattle.states.specs.State.{Search}
-use Rattle.orders.proofs.Tests.{taken, left}
 use Rattle.rules.specs.Table.{InOrder}
 use Rattle.flaws.specs.Flaw.{Hits, RowOrdered}
 use Rattle.flaws.proofs.Flaws as fl

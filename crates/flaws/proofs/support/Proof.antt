@@ -1,7 +1,8 @@
 use borrow.Author.Needs.{needs}
 use native.Mathlib.Omega.{arith}
-use Rattle.orders.proofs.Tests.{passed, failed, taken, left}
+use Rattle.orders.proofs.Tests.{passed, failed}
 use Rattle.facts.specs.Facts.{has}
+use Rattle.facts.proofs.Bools.{test-yes, test-no}
 use Rattle.flaws.proofs.Flaws as fl
 use Rattle.flaws.proofs.support.Statement.{statement}
 use Rattle.flaws.proofs.support.Tie as tie
@@ -40,10 +41,10 @@ has-requires-2 : tie.Need-has-requires-2
 has-requires-2 c κs = search needs
 
 returns-4 : tie.Need-returns-4
-returns-4 c P p A G k m = let h = c .before .before .before .before .lack .ensures in fl.pick-pair (c .before .before .before .before .before .before .before .before .before .before .args .t1) (fl.sup-after P (c .before .before .before .before .before .before .before .before .before .before .args .t1) p (c .before .before .before .before .before .before .before .before .before .before .args .b) (c .before .before .before .before .before .before .before .before .before .before .args .a) A G (c .before .before .before .before .before .before .before .before .before .before .args .rest) k m h (omega arith) (taken (c .before .has2 .ensures) (c .if4 .taken)))
+returns-4 c P p A G k m = let h = c .before .before .before .before .lack .ensures in fl.pick-pair (c .before .before .before .before .before .before .before .before .before .before .args .t1) (fl.sup-after P (c .before .before .before .before .before .before .before .before .before .before .args .t1) p (c .before .before .before .before .before .before .before .before .before .before .args .b) (c .before .before .before .before .before .before .before .before .before .before .args .a) A G (c .before .before .before .before .before .before .before .before .before .before .args .rest) k m h (omega arith) (test-yes (c .before .has2 .ensures) (c .if4 .taken)))
 
 returns-5 : tie.Need-returns-5
-returns-5 c P p A G k m = let h = c .before .before .before .before .lack .ensures in fl.pick-pair (c .before .before .before .before .before .before .before .before .before .before .args .t1) (fl.sup-first P (c .before .before .before .before .before .before .before .before .before .before .args .t1) p (c .before .before .before .before .before .before .before .before .before .before .args .b) (c .before .before .before .before .before .before .before .before .before .before .args .a) A G (c .before .before .before .before .before .before .before .before .before .before .args .rest) k m (omega arith) h (omega arith) (left (c .before .has2 .ensures) (c .if4 .left)))
+returns-5 c P p A G k m = let h = c .before .before .before .before .lack .ensures in fl.pick-pair (c .before .before .before .before .before .before .before .before .before .before .args .t1) (fl.sup-first P (c .before .before .before .before .before .before .before .before .before .before .args .t1) p (c .before .before .before .before .before .before .before .before .before .before .args .b) (c .before .before .before .before .before .before .before .before .before .before .args .a) A G (c .before .before .before .before .before .before .before .before .before .before .args .rest) k m (omega arith) h (omega arith) (test-no (c .before .has2 .ensures) (c .if4 .left)))
 
 pub support-spec : {M : Type 1} → statement M
 support-spec =

@@ -5,7 +5,7 @@ use Rattle.rules.specs.Table.{boundCheck}
 use Rattle.rules.proofs.Refused.{if-hit, if-pass}
 use Rattle.tables.specs.declared.Answer.{Answer}
 use Rattle.tables.proofs.Laws.{said, judges-no}
-use Rattle.jobfile.proofs.Checks.{problem-stop, problem-on, call-passed}
+use Rattle.jobfile.proofs.Checks.{problem-stop, problem-on, call-fits}
 use borrow.Author.Needs.{needs}
 use Rattle.jobfile.proofs.problem_fault.Statement.{statement}
 use Rattle.jobfile.proofs.problem_fault.Tie as tie
@@ -41,7 +41,7 @@ returns-3 c =
     record {
       says = c .done .ensures ∙ said 0 0 (problem-on (a .short) (a .l) (a .q) (sym (ap (λ (x : Answer). x .number) (c .before .before .before .before .before .call-fault .ensures .says)) ∙ c .before .before .before .if1 .left)
           ∙ if-pass _ 9 0 _ (λ h. omega (arith, ltb→lt 2880 (a .q .bound) h)));
-      order = λ z. call-passed (a .short) (a .l) (a .q) (sym (ap (λ (x : Answer). x .number) (c .before .before .before .before .before .call-fault .ensures .says)) ∙ c .before .before .before .if1 .left);
+      order = λ z. call-fits (a .short) (a .l) (a .q) (sym (ap (λ (x : Answer). x .number) (c .before .before .before .before .before .call-fault .ensures .says)) ∙ c .before .before .before .if1 .left);
     }
 
 pub problem-fault-spec : {M : Type 1} → statement M

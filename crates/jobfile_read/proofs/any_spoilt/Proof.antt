@@ -5,9 +5,8 @@ use Prim.Native.Nat.{ℕ, _-_, _≤_, _<_}
 use lib.Dec.{T}
 use borrow.Author.Count.{below-more}
 use Rattle.facts.proofs.Bools.{same, test-yes, test-no}
-use Rattle.facts.proofs.Least.{any-of}
+use Rattle.facts.proofs.Least.{any-of, any-none}
 use Rattle.jobfile.specs.Format.{spoilt}
-use Rattle.jobfile_read.proofs.Laws.{any-none}
 use Rattle.jobfile_read.proofs.any_spoilt.Statement.{statement}
 use Rattle.jobfile_read.proofs.any_spoilt.Tie as tie
 

@@ -1,17 +1,18 @@
 use mathlib.Core.Bool.{Bool, _||_}
-use mathlib.Core.Path.{_≡_, ap₂, _∙_}
+use mathlib.Core.Path.{_≡_, ap₂, _∙_, sym}
 use Prim.Native.Nat.{ℕ, _-_, _≤_}
 use native.Mathlib.Omega.{arith}
 use borrow.Author.Needs.{needs}
 use Rattle.facts.proofs.Sets.{has-or}
 use Rattle.facts.specs.Facts.{has}
 use Rattle.facts.specs.Least.{least, any}
+use Rattle.facts.proofs.Least.{any-more}
 use Rattle.rules.specs.Plans.{starts}
 use Rattle.rules.specs.Supports.{blocks}
 use Rattle.tables.specs.Tables.{problem}
 use Rattle.tables.specs.declared.Ask.{Ask}
 use Rattle.named.proofs.Blocks.{blocks-of}
-use Rattle.named.proofs.Tests.{any-more, no-fact}
+use Rattle.named.proofs.Tests.{no-fact}
 use Rattle.named.specs.Named.{consumer}
 use Rattle.named.proofs.blocked.Statement.{statement}
 use Rattle.named.proofs.blocked.Tie as tie
@@ -57,7 +58,7 @@ loop-less : tie.Need-loop-less Inv-loop μ-loop
 loop-less c = search needs
 
 loop-again : tie.Need-loop-again Inv-loop μ-loop
-loop-again c = (omega arith, λ q p. has-or (c .before .before .before .before .before .before .before .loop .w) _ p ∙ ap₂ (λ (x y : Bool). x || y) (c .before .before .before .before .before .before .before .loop .inv .1 q p) (c .word-if .ensures p ∙ blocks-of (c .before .before .before .before .before .before .before .before .before .args .t1) q (c .before .before .before .before .before .before .before .before .before .args .s .now) (c .before .before .before .before .before .before .before .before .before .args .c) p (c .before .before .before .before .before .before .before .before .before .args .from) (c .before .before .before .before .before .before .before .loop .d) (c .before .before .before .in-way .ensures)) ∙ any-more _ (c .before .before .before .before .before .before .before .loop .d))
+loop-again c = (omega arith, λ q p. has-or (c .before .before .before .before .before .before .before .loop .w) _ p ∙ ap₂ (λ (x y : Bool). x || y) (c .before .before .before .before .before .before .before .loop .inv .1 q p) (c .word-if .ensures p ∙ blocks-of (c .before .before .before .before .before .before .before .before .before .args .t1) q (c .before .before .before .before .before .before .before .before .before .args .s .now) (c .before .before .before .before .before .before .before .before .before .args .c) p (c .before .before .before .before .before .before .before .before .before .args .from) (c .before .before .before .before .before .before .before .loop .d) (c .before .before .before .in-way .ensures)) ∙ sym (any-more _ (c .before .before .before .before .before .before .before .loop .d)))
 
 returns : tie.Need-returns Inv-loop μ-loop
 returns c = let e : c .before .loop .d ≡ c .before .before .before .args .q .jobs = omega arith in λ p. rw e at (c .before .loop .inv .1 (c .before .before .before .args .q) p)

@@ -6,12 +6,12 @@ use borrow.Author.Needs.{needs}
 use lib.ListN.{length, getD, length-set}
 use Rattle.facts.proofs.Sets.{has-and}
 use Rattle.facts.specs.Facts.{has, Word}
+use Rattle.facts.proofs.Lists.{set-more}
 use Rattle.rules.specs.Pairs.{isJob}
 use Rattle.rules.specs.Plans.{starts}
 use Rattle.rules.specs.Supports.{named}
 use Rattle.tables.specs.Tables.{problem}
 use Rattle.named.proofs.Rows.{Left, left-first, left-more, taken}
-use Rattle.named.proofs.Tests.{set-below}
 use Rattle.named.specs.Named.{consumer}
 use Rattle.named.proofs.named_row.Statement.{statement}
 use Rattle.named.proofs.named_row.Tie as tie
@@ -50,7 +50,7 @@ loop-less : tie.Need-loop-less Inv-loop μ-loop
 loop-less c = search needs
 
 loop-again : tie.Need-loop-again Inv-loop μ-loop
-loop-again c = (omega arith, length-set (c .before .before .before .loop .by) (c .before .before .before .loop .a) _ ∙ c .before .before .before .loop .inv .1, left-more (problem (c .before .before .before .before .before .before .before .args .l) (c .before .before .before .before .before .before .before .args .q)) (starts (c .before .before .before .before .before .before .before .args .s .now)) (consumer (c .before .before .before .before .before .before .before .args .c)) (c .before .before .before .before .before .before .before .args .want) (c .before .before .before .loop .a) (c .before .before .before .loop .left) (c .before .job-fits .result) _ (c .before .before .before .loop .inv .2) (c .before .job-fits .ensures) (c .less2 .ensures), set-below (λ k w. Word (λ p. has (c .before .before .before .before .before .before .before .args .want) p && isJob k (named (problem (c .before .before .before .before .before .before .before .args .l) (c .before .before .before .before .before .before .before .args .q)) (starts (c .before .before .before .before .before .before .before .args .s .now)) p (consumer (c .before .before .before .before .before .before .before .args .c)))) w) (c .before .before .before .loop .by) (c .before .before .before .loop .a) _ (omega arith) (c .before .before .before .loop .inv .3) (taken (problem (c .before .before .before .before .before .before .before .args .l) (c .before .before .before .before .before .before .before .args .q)) (starts (c .before .before .before .before .before .before .before .args .s .now)) (consumer (c .before .before .before .before .before .before .before .args .c)) (c .before .before .before .before .before .before .before .args .want) (c .before .before .before .loop .a) (c .before .before .before .loop .left) (c .before .job-fits .result) _ (omega arith) (c .before .before .before .loop .inv .2) (c .before .job-fits .ensures) (has-and (c .before .before .before .loop .left) (c .before .job-fits .result))))
+loop-again c = (omega arith, length-set (c .before .before .before .loop .by) (c .before .before .before .loop .a) _ ∙ c .before .before .before .loop .inv .1, left-more (problem (c .before .before .before .before .before .before .before .args .l) (c .before .before .before .before .before .before .before .args .q)) (starts (c .before .before .before .before .before .before .before .args .s .now)) (consumer (c .before .before .before .before .before .before .before .args .c)) (c .before .before .before .before .before .before .before .args .want) (c .before .before .before .loop .a) (c .before .before .before .loop .left) (c .before .job-fits .result) _ (c .before .before .before .loop .inv .2) (c .before .job-fits .ensures) (c .less2 .ensures), set-more (λ k w. Word (λ p. has (c .before .before .before .before .before .before .before .args .want) p && isJob k (named (problem (c .before .before .before .before .before .before .before .args .l) (c .before .before .before .before .before .before .before .args .q)) (starts (c .before .before .before .before .before .before .before .args .s .now)) p (consumer (c .before .before .before .before .before .before .before .args .c)))) w) (c .before .before .before .loop .by) (c .before .before .before .loop .a) _ 0 (omega arith) (c .before .before .before .loop .inv .3) (taken (problem (c .before .before .before .before .before .before .before .args .l) (c .before .before .before .before .before .before .before .args .q)) (starts (c .before .before .before .before .before .before .before .args .s .now)) (consumer (c .before .before .before .before .before .before .before .args .c)) (c .before .before .before .before .before .before .before .args .want) (c .before .before .before .loop .a) (c .before .before .before .loop .left) (c .before .job-fits .result) _ (omega arith) (c .before .before .before .loop .inv .2) (c .before .job-fits .ensures) (has-and (c .before .before .before .loop .left) (c .before .job-fits .result))))
 
 returns : tie.Need-returns Inv-loop μ-loop
 returns c = record { start = λ p. has-and (c .before .before .before .before .before .args .want) (c .before .before .before .start-fits .result) p ∙ ap (λ (x : Bool). has (c .before .before .before .before .before .args .want) p && x) (c .before .before .before .start-fits .ensures p); by = λ k h. c .before .loop .inv .3 k (omega arith) }

@@ -1,9 +1,10 @@
 use borrow.Author.Needs.{needs}
 use mathlib.Core.Path.{refl}
+use Rattle.facts.proofs.Bools.{test-yes}
 use Rattle.states.proofs.Keep.{keeps-refl}
 use Rattle.orders.specs.View.{view}
 use Rattle.orders.proofs.Changes.{keeps-sure, keeps-never}
-use Rattle.orders.proofs.Tests.{passed, taken, left}
+use Rattle.orders.proofs.Tests.{passed}
 use Rattle.states.proofs.Rules as rules
 use Rattle.orders.proofs.orders.Statement.{statement}
 use Rattle.orders.proofs.orders.Tie as tie
@@ -23,7 +24,7 @@ put-never-requires c κs = search needs
 returns : tie.Need-returns
 returns c P wf e =
     let a = (c .before .before .before .before .args) in
-    keeps-never P (a .b) (a .a) (c .put-never .ensures) (rules.one-way P wf (view (a .t1)) (a .a) (a .b) (taken (c .before .before .has .ensures) (c .before .if1 .taken)))
+    keeps-never P (a .b) (a .a) (c .put-never .ensures) (rules.one-way P wf (view (a .t1)) (a .a) (a .b) (test-yes (c .before .before .has .ensures) (c .before .if1 .taken)))
 
 mul-n : tie.Need-mul-n
 mul-n c = search needs

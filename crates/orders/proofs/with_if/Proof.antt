@@ -1,6 +1,5 @@
 use borrow.Author.Needs.{needs}
 use mathlib.Core.Path.{refl}
-use Rattle.orders.proofs.Tests.{taken, left}
 use Rattle.orders.proofs.with_if.Statement.{statement}
 use Rattle.orders.proofs.with_if.Tie as tie
 

@@ -5,7 +5,7 @@ use borrow.Author.Needs.{needs}
 use native.Mathlib.Omega.{arith}
 use mathlib.Core.Path.{_≡_}
 use lib.ListN.{length}
-use Rattle.planning.proofs.Laws.{set-more}
+use Rattle.facts.proofs.Lists.{set-more}
 use Rattle.planning.proofs.all_hits.Statement.{statement}
 use Rattle.planning.proofs.all_hits.Tie as tie
 
@@ -34,7 +34,7 @@ loop-less : tie.Need-loop-less Inv-loop μ-loop
 loop-less c = search needs
 
 loop-again : tie.Need-loop-again Inv-loop μ-loop
-loop-again c = (omega arith, search needs, set-more (λ (i w : ℕ). Cols (Hit (c .before .before .before .args .l) (c .before .before .before .args .q) i) w 24) (c .before .before .loop .t) (c .before .before .loop .a) _ (omega arith) (c .before .before .loop .inv .2) (c .hits-of .ensures))
+loop-again c = (omega arith, search needs, set-more (λ (i w : ℕ). Cols (Hit (c .before .before .before .args .l) (c .before .before .before .args .q) i) w 24) (c .before .before .loop .t) (c .before .before .loop .a) _ 0 (omega arith) (c .before .before .loop .inv .2) (c .hits-of .ensures))
 
 returns : tie.Need-returns Inv-loop μ-loop
 returns c = λ i h. c .before .loop .inv .2 i (omega arith)

@@ -2,11 +2,12 @@ use borrow.Author.Needs.{needs}
 use native.Mathlib.Omega.{arith}
 use Prim.Native.Nat.{_-_, _≤_}
 use mathlib.Core.Path.{_≡_, refl}
+use Rattle.facts.proofs.Lists.{getD-any}
 use Rattle.tables.specs.Tables.{problem}
 use Rattle.tables.specs.declared.Ask.{Ask}
 use Rattle.search.specs.Leaf.{planOf}
 use Rattle.planning.specs.Derived.{LastEnd}
-use Rattle.planning.proofs.Laws.{end-none, end-next, inside}
+use Rattle.planning.proofs.Laws.{end-none, end-next}
 use Rattle.planning.proofs.last_end.Statement.{statement}
 use Rattle.planning.proofs.last_end.Tie as tie
 
@@ -41,7 +42,7 @@ loop-less : tie.Need-loop-less Inv-loop μ-loop
 loop-less c = search needs
 
 loop-again : tie.Need-loop-again Inv-loop μ-loop
-loop-again c = (omega arith, λ q. end-next (problem (c .before .before .before .before .args .t1) q) (planOf (c .before .before .before .before .args .t3)) (c .before .before .before .loop .j) (c .before .before .before .loop .end) _ _ _ (inside (c .before .before .before .before .args .t3) (c .before .before .before .loop .j) 65535 0 (search needs)) refl (c .before .before .before .loop .inv .1 q) (c .later .ensures))
+loop-again c = (omega arith, λ q. end-next (problem (c .before .before .before .before .args .t1) q) (planOf (c .before .before .before .before .args .t3)) (c .before .before .before .loop .j) (c .before .before .before .loop .end) _ _ _ (getD-any (c .before .before .before .before .args .t3) (c .before .before .before .loop .j) 65535 0 (search needs)) refl (c .before .before .before .loop .inv .1 q) (c .later .ensures))
 
 returns : tie.Need-returns Inv-loop μ-loop
 returns c = let e : c .before .loop .j ≡ c .before .before .args .n = omega arith in rw e at (c .before .loop .inv .1)

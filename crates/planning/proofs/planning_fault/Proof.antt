@@ -5,8 +5,8 @@ use Rattle.rules.specs.Refusals.{accepted}
 use Rattle.rules.specs.Table.{boundCheck}
 use Rattle.rules.proofs.Refused.{stopped, went-on, if-hit, if-pass}
 use Rattle.tables.specs.Tables.{callChecks}
-use Rattle.tables.proofs.Laws.{said, judges-no, accepts}
-use Rattle.entries.proofs.Calls.{call-checks, numbered}
+use Rattle.tables.proofs.Laws.{said, judges-no, accepts, numbered}
+use Rattle.tables.proofs.Calls.{call-checks}
 use Rattle.planning.proofs.Answers.{plannable}
 use borrow.Author.Needs.{needs}
 use Rattle.planning.proofs.planning_fault.Statement.{statement}

@@ -2,7 +2,7 @@ use borrow.Author.Needs.{needs}
 use Prim.Native.Nat.{ℕ}
 use mathlib.Core.Path.{subst}
 use lib.Dec.{T}
-use Rattle.orders.proofs.Tests.{failed, taken}
+use Rattle.orders.proofs.Tests.{failed}
 use Rattle.facts.specs.Facts.{has}
 use Rattle.flaws.proofs.Flaws as fl
 use Rattle.prune.proofs.Laws as pl

@@ -1,4 +1,3 @@
-use Rattle.orders.proofs.Tests.{taken}
 use Rattle.orders.specs.declared.State.{State}
 use Rattle.states.proofs.Keep.{keeps-refl, keeps-trans}
 use mathlib.Core.Logic.{⊎-elim}
@@ -6,6 +5,7 @@ use mathlib.Core.Path.{sym, subst}
 use native.Mathlib.Omega.{arith}
 use Prim.Native.Nat.{_-_, _≤_}
 use borrow.Author.Needs.{needs}
+use Rattle.facts.proofs.Bools.{test-yes}
 use Rattle.rules.specs.Table.{InOrder}
 use Rattle.prune.specs.Prune.{WantsAll}
 use Rattle.flaws.specs.Flaw.{Lists}
@@ -49,7 +49,7 @@ loop-less : tie.Need-loop-less Inv-loop μ-loop
 loop-less c = search needs
 
 loop-again : tie.Need-loop-again Inv-loop μ-loop
-loop-again c = let l = c .before .before .before .loop in (omega arith, λ P wf w k al. keeps-trans (l .inv .1 P wf w k al) (⊎-elim (λ x. subst (λ (t : State). Keeps P (view (l .t)) (view t)) (sym (x .4)) (x .3 .ensures P (pl.rule-at (c .before .before .before .before .before .before .before .args .b) (c .before .before .before .before .before .before .before .args .word) wf w k (l .p) (omega arith) (taken (c .before .fact .ensures) (x .0 .taken))) al)) (λ x. subst (λ (t : State). Keeps P (view (l .t)) (view t)) (sym (x .1)) (keeps-refl _)) (c .if1 .came)))
+loop-again c = let l = c .before .before .before .loop in (omega arith, λ P wf w k al. keeps-trans (l .inv .1 P wf w k al) (⊎-elim (λ x. subst (λ (t : State). Keeps P (view (l .t)) (view t)) (sym (x .4)) (x .3 .ensures P (pl.rule-at (c .before .before .before .before .before .before .before .args .b) (c .before .before .before .before .before .before .before .args .word) wf w k (l .p) (omega arith) (test-yes (c .before .fact .ensures) (x .0 .taken))) al)) (λ x. subst (λ (t : State). Keeps P (view (l .t)) (view t)) (sym (x .1)) (keeps-refl _)) (c .if1 .came)))
 
 returns : tie.Need-returns Inv-loop μ-loop
 returns c = search needs

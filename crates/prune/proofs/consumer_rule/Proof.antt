@@ -1,6 +1,5 @@
 use borrow.Author.Needs.{needs}
 use native.Mathlib.Omega.{arith}
-use Rattle.orders.proofs.Tests.{taken}
 use Rattle.flaws.proofs.Flaws as fl
 use Rattle.prune.proofs.Laws as pl
 use Rattle.prune.proofs.consumer_rule.Statement.{statement}

@@ -1,7 +1,7 @@
 use borrow.Author.Needs.{needs}
 use native.Mathlib.Omega.{arith}
 use mathlib.Core.Path.{refl}
-use Rattle.orders.proofs.Tests.{failed, taken}
+use Rattle.orders.proofs.Tests.{failed}
 use Rattle.prune.proofs.min_if.Statement.{statement}
 use Rattle.prune.proofs.min_if.Tie as tie
 

@@ -1,7 +1,6 @@
 use borrow.Author.Needs.{needs}
 use native.Mathlib.Omega.{arith}
 use Rattle.orders.proofs.Changes.{keeps-barred}
-use Rattle.orders.proofs.Tests.{taken}
 use Rattle.prune.proofs.Laws as pl
 use Rattle.prune.proofs.none_left.Statement.{statement}
 use Rattle.prune.proofs.none_left.Tie as tie

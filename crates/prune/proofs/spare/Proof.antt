@@ -1,8 +1,9 @@
 use borrow.Author.Needs.{needs}
 use native.Mathlib.Omega.{arith}
+use Rattle.facts.proofs.Bools.{test-yes}
 use Rattle.states.proofs.Keep.{keeps-refl}
 use Rattle.orders.proofs.Changes.{keeps-sure}
-use Rattle.orders.proofs.Tests.{passed, taken, left}
+use Rattle.orders.proofs.Tests.{passed}
 use Rattle.prune.proofs.Laws as pl
 use Rattle.prune.proofs.spare.Statement.{statement}
 use Rattle.prune.proofs.spare.Tie as tie
@@ -14,7 +15,7 @@ put-sure-requires : tie.Need-put-sure-requires
 put-sure-requires c κs = search needs
 
 returns : tie.Need-returns
-returns c P p x k ne = keeps-sure P (c .before .before .before .args .d) (c .before .before .before .args .a) (c .put-sure .ensures) (pl.spare-first P (c .before .before .before .args .t1) (c .before .before .before .args .b) (c .before .before .before .args .a) p x (c .before .before .before .args .d) k ne (taken (c .before .before .late-for .ensures) (c .before .if1 .taken)))
+returns c P p x k ne = keeps-sure P (c .before .before .before .args .d) (c .before .before .before .args .a) (c .put-sure .ensures) (pl.spare-first P (c .before .before .before .args .t1) (c .before .before .before .args .b) (c .before .before .before .args .a) p x (c .before .before .before .args .d) k ne (test-yes (c .before .before .late-for .ensures) (c .before .if1 .taken)))
 
 mul-n : tie.Need-mul-n
 mul-n c = search needs

@@ -2,7 +2,7 @@ use borrow.Author.Needs.{needs}
 use native.Mathlib.Omega.{arith}
 use Rattle.states.proofs.Keep.{keeps-refl}
 use Rattle.orders.proofs.Changes.{keeps-barred, keeps-sure}
-use Rattle.orders.proofs.Tests.{passed, taken, left}
+use Rattle.orders.proofs.Tests.{passed}
 use Rattle.prune.proofs.Laws as pl
 use Rattle.prune.proofs.start_if.Statement.{statement}
 use Rattle.prune.proofs.start_if.Tie as tie

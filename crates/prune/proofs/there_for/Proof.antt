@@ -1,7 +1,6 @@
 use borrow.Author.Needs.{needs}
 use native.Mathlib.Omega.{arith}
 use mathlib.Core.Path.{refl}
-use Rattle.orders.proofs.Tests.{taken}
 use Rattle.facts.specs.Facts.{has}
 use Rattle.prune.proofs.Laws as pl
 use Rattle.prune.proofs.there_for.Statement.{statement}

@@ -1,7 +1,7 @@
 use borrow.Author.Needs.{needs}
 use native.Mathlib.Omega.{arith}
 use Rattle.states.proofs.Keep.{keeps-trans}
-use Rattle.orders.proofs.Tests.{passed, taken, left}
+use Rattle.orders.proofs.Tests.{passed}
 use Rattle.prune.proofs.Laws as pl
 use Rattle.prune.proofs.without_start.Statement.{statement}
 use Rattle.prune.proofs.without_start.Tie as tie

@@ -1,6 +1,5 @@
 use borrow.Author.Needs.{needs}
 use borrow.Author.Tests.{not-true, not-false}
-use Rattle.orders.proofs.Tests.{taken, left}
 use Rattle.search.proofs.Answers as an
 use Rattle.search.proofs.leaf.Statement.{statement}
 use Rattle.search.proofs.leaf.Tie as tie

@@ -2,7 +2,6 @@ use native.Mathlib.Omega.{arith}
 use borrow.Author.Needs.{needs}
 use borrow.Author.Tests.{not-true, not-false}
 use Rattle.orders.specs.View.{AllTakes, Prunes}
-use Rattle.orders.proofs.Tests.{taken, left}
 use Rattle.search.specs.Leaf.{room}
 use Rattle.search.proofs.Leaves as lv
 use Rattle.search.proofs.settle.Statement.{statement}

@@ -3,7 +3,6 @@ use Prim.Native.Nat.{_-_, _≤_}
 use borrow.Author.Needs.{needs}
 use borrow.Author.Count.{below-more}
 use borrow.Author.Tests.{not-true, not-false}
-use Rattle.orders.proofs.Tests.{taken, left}
 use Rattle.search.specs.Leaf.{AllStand}
 use Rattle.search.proofs.Leaves as lv
 use Rattle.search.proofs.stand_all.Statement.{statement}

@@ -1,8 +1,9 @@
 use borrow.Author.Needs.{needs}
 use native.Mathlib.Omega.{arith}
 use Prim.Native.Nat.{_+_}
-use Rattle.orders.proofs.Tests.{passed, failed, taken, left}
+use Rattle.orders.proofs.Tests.{passed, failed}
 use Rattle.facts.specs.Facts.{has}
+use Rattle.facts.proofs.Bools.{test-yes, test-no}
 use Rattle.search.proofs.Leaves as lv
 use Rattle.search.proofs.stands_at.Statement.{statement}
 use Rattle.search.proofs.stands_at.Tie as tie
@@ -20,7 +21,7 @@ has-requires-2 : tie.Need-has-requires-2
 has-requires-2 c κs = search needs
 
 returns-3 : tie.Need-returns-3
-returns-3 c = lv.checks-dead (λ P e Q l. l .fits .stays .barred (c .before .before .before .before .before .args .j) (taken (c .before .has2 .ensures) (c .if3 .taken)) (l .fits .stays .inside (c .before .before .before .before .before .args .j) (passed (c .before .before .before .before .has .ensures) (c .before .before .before .if1 .left))))
+returns-3 c = lv.checks-dead (λ P e Q l. l .fits .stays .barred (c .before .before .before .before .before .args .j) (test-yes (c .before .has2 .ensures) (c .if3 .taken)) (l .fits .stays .inside (c .before .before .before .before .before .args .j) (passed (c .before .before .before .before .has .ensures) (c .before .before .before .if1 .left))))
 
 mul-if4 : tie.Need-mul-if4
 mul-if4 c = search needs
@@ -57,7 +58,7 @@ wide-requires-3 c κs = search needs
 
 returns-5 : tie.Need-returns-5
 returns-5 c = lv.checks-le (c .before .before .wide .result + c .before .wide2 .result) (c .wide3 .result)
-    (λ h i. record { below = omega arith; free = left (c .before .before .before .before .before .before .before .before .has2 .ensures) (c .before .before .before .before .before .before .before .if3 .left); window = omega arith; ends = omega arith })
+    (λ h i. record { below = omega arith; free = test-no (c .before .before .before .before .before .before .before .before .has2 .ensures) (c .before .before .before .before .before .before .before .if3 .left); window = omega arith; ends = omega arith })
     (λ h P e. lv.out (c .before .before .before .before .before .before .before .before .before .before .before .before .args .t1) P (c .before .before .before .before .before .before .before .before .before .before .before .before .args .j) (passed (c .before .before .before .before .before .before .before .before .before .before .before .has .ensures) (c .before .before .before .before .before .before .before .before .before .before .if1 .left)) (λ Q l k lo hi f. omega (arith, e .1 .0, e .1 .1)))
 
 pub stands-at-spec : {M : Type 1} → statement M

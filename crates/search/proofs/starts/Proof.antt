@@ -4,8 +4,8 @@ use mathlib.Core.Path.{_≡_}
 use lib.ListN.{getD, length}
 use borrow.Author.Needs.{needs}
 use Rattle.facts.specs.Facts.{has}
+use Rattle.facts.proofs.Lists.{set-more}
 use Rattle.search.specs.Leaf.{startOf}
-use Rattle.search.proofs.Leaves as lv
 use Rattle.search.proofs.starts.Statement.{statement}
 use Rattle.search.proofs.starts.Tie as tie
 
@@ -34,7 +34,7 @@ loop-less : tie.Need-loop-less Inv-loop μ-loop
 loop-less c = search needs
 
 loop-again : tie.Need-loop-again Inv-loop μ-loop
-loop-again c = (omega arith, (search needs, lv.set-more (c .before .before .loop .q) (c .before .before .loop .j) _ (λ (i : ℕ). startOf (has (c .before .before .before .args .s .inside) i) (getD (c .before .before .before .args .s .lo) i 0)) (omega arith) (c .before .before .loop .inv .1 .1) (c .start-at .ensures)))
+loop-again c = (omega arith, (search needs, set-more (λ (i v : ℕ). v ≡ startOf (has (c .before .before .before .args .s .inside) i) (getD (c .before .before .before .args .s .lo) i 0)) (c .before .before .loop .q) (c .before .before .loop .j) _ 65535 (omega arith) (c .before .before .loop .inv .1 .1) (c .start-at .ensures)))
 
 returns : tie.Need-returns Inv-loop μ-loop
 returns c = (search needs, λ j l. c .before .loop .inv .1 .1 j (omega arith))

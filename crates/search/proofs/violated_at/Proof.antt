@@ -1,7 +1,7 @@
 use borrow.Author.Needs.{needs}
 use native.Mathlib.Omega.{arith}
 use Prim.Native.Nat.{_+_}
-use Rattle.orders.proofs.Tests.{passed, failed, taken, left}
+use Rattle.orders.proofs.Tests.{passed, failed}
 use Rattle.facts.specs.Facts.{has}
 use Rattle.flaws.proofs.Flaws as fl
 use Rattle.search.proofs.Leaves as lv

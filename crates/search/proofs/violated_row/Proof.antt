@@ -2,7 +2,6 @@ use native.Mathlib.Omega.{arith}
 use Prim.Native.Nat.{_-_, _≤_}
 use borrow.Author.Needs.{needs}
 use borrow.Author.Count.{below-more}
-use Rattle.orders.proofs.Tests.{taken, left}
 use Rattle.search.specs.Leaf.{RowSteady}
 use Rattle.search.proofs.Leaves as lv
 use Rattle.search.proofs.violated_row.Statement.{statement}

@@ -3,13 +3,12 @@ use native.Mathlib.Omega.{arith}
 use borrow.Author.Count.{below-more}
 use borrow.Author.Needs.{needs}
 use lib.Dec.{T, ltb, lt→ltb, ltb→lt}
-use Rattle.facts.proofs.Bools.{test-yes, test-no, and-of, and-l, and-r}
-use Rattle.facts.proofs.Least.{any-of}
+use Rattle.facts.proofs.Bools.{test-yes, test-no, and-of, and-l, and-r, passes}
+use Rattle.facts.proofs.Least.{any-of, any-none}
 use Rattle.rules.specs.Plans.{starts}
 use Rattle.rules.specs.Verdicts.{overlap, clashes}
 use Rattle.tables.specs.Tables.{problem}
 use Rattle.tables.specs.declared.Ask.{Ask}
-use Rattle.verdict.proofs.Steps.{passes, any-none}
 use Rattle.verdict.proofs.clashes.Statement.{statement}
 use Rattle.verdict.proofs.clashes.Tie as tie
 

@@ -1,7 +1,7 @@
 use mathlib.Core.Path.{_∙_}
 use borrow.Author.Needs.{needs}
 use Rattle.facts.proofs.Sets.{has-less}
-use Rattle.verdict.proofs.Steps.{least-same}
+use Rattle.facts.proofs.Least.{least-same}
 use Rattle.verdict.proofs.first_lacking.Statement.{statement}
 use Rattle.verdict.proofs.first_lacking.Tie as tie
 
@@ -9,7 +9,7 @@ lowest-requires : tie.Need-lowest-requires
 lowest-requires c κs = search needs
 
 returns : tie.Need-returns
-returns c = c .lowest .ensures ∙ least-same _ _ 64 (λ p. has-less 64 (c .before .args .want) (c .before .args .have) p (c .before .fits .want .fits) (c .before .fits .have .fits))
+returns c = c .lowest .ensures ∙ least-same _ _ 64 (λ p l. has-less 64 (c .before .args .want) (c .before .args .have) p (c .before .fits .want .fits) (c .before .fits .have .fits))
 
 pub first-lacking-spec : {M : Type 1} → statement M
 first-lacking-spec = tie.close (tie.spec lowest-requires returns)

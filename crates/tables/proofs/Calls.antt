@@ -1,26 +1,21 @@
 -- A call behind checks 3 to 8.
 -- Assumes nothing.
-use mathlib.Core.Path.{_≡_, sym, ap, _∙_}
+use mathlib.Core.Path.{_≡_, sym, _∙_}
 use mathlib.Core.Bool.{Bool, _||_}
-use Prim.Native.Nat.{ℕ}
 use native.Mathlib.Omega.{arith}
 use lib.Dec.{T, ltb}
 use Rattle.facts.proofs.Bools.{or-l}
 use Rattle.rules.specs.Refusals.{Verdict, accepted}
 use Rattle.rules.proofs.Refused.{Checks, if-checks, then-checks, table-checks, if-zero}
 use Rattle.rules.proofs.Checked.{Passed, passed}
 use Rattle.tables.specs.declared.Loaded.{Loaded}
 use Rattle.tables.specs.declared.Ask.{Ask}
 use Rattle.tables.specs.declared.Answer.{Answer}
 use Rattle.tables.specs.Tables.{problem, answer, callChecks}
-use Rattle.tables.proofs.Laws.{accepts}
+use Rattle.tables.proofs.Laws.{numbered, accepts}
 
 pub call-checks : (short : Bool) (l : Loaded) (q : Ask) → Checks (callChecks short l q)
 call-checks short l q = then-checks (if-checks (short || ltb (l .lent) (q .jobs)) 3 0 (omega arith)) (table-checks (problem l q))
-
--- an answer has the number of its verdict
-pub numbered : {v : Verdict} {r : Answer} (yea nay : ℕ) → r ≡ answer v yea nay → r .number ≡ v .number
-numbered yea nay e = ap (λ (x : Answer). x .number) e
 
 -- a list of checks whose answer has number 0 accepts
 pub accepts-by : {C : Verdict → Verdict} {r : Answer} → Checks C → r ≡ answer (C accepted) 0 0 → r .number ≡ 0 → C accepted ≡ accepted
