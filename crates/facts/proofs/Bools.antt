@@ -1,7 +1,7 @@
 -- Tests as truths, and answers that say whether something is so.
 -- Assumes nothing.
 use mathlib.Core.Path.{_≡_, refl, sym, _∙_, ap, subst}
-use mathlib.Core.Bool.{Bool, true, false, not, _&&_, _||_, true≢false, false≢true}
+use mathlib.Core.Bool.{Bool, true, false, not, _&&_, _||_}
 use mathlib.Core.Logic.{_⊎_, inl, inr, _≢_, _↔_}
 use Prim.Native.Nat.{ℕ, suc, _≤_, _<_}
 use native.Mathlib.Omega.{arith}
@@ -103,9 +103,6 @@ pub or-at : (i k : ℕ) → i ≤ k → (i < k) ⊎ (i ≡ k)
 or-at i k l = below-suc i k (omega arith)
 
 -- ── an answer that says whether something is so ──
-
-pub decides-eqb : (m n : ℕ) {A : Type 0} → (m ≡ n) ↔ A → Decides (eqb m n) A
-decides-eqb m n i = record { yea = λ e. i .0 (eqb-true m n e); nay = λ e p. eqb-false m n e (i .1 p) }
 
 pub decides-neb : (m n : ℕ) {A : Type 0} → (m ≡ n → ⊥) ↔ A → Decides (not (eqb m n)) A
 decides-neb m n i = record {
