@@ -9,7 +9,7 @@ use Rattle.rules.specs.Table.{between, strays, jobStrays, undoes, jobChecks, ta
 use Rattle.rules.specs.Plans.{inPlan, spoils, interfere, ends, afterIf, finishes, holds}
 use Rattle.rules.specs.Verdicts.{late, overlap, clashes, unready, missing, planChecks}
 use Rattle.tenths.specs.Tenths.{inRange, tenths}
-use Rattle.tenths.specs.Cases.{float}
+use Rattle.tenths.specs.Rounding.{float}
 use Rattle.cases.specs.Jobs.{facts}
 use Rattle.cases.specs.Claims.{AllHold}
 use Rattle.cases.specs.Cases.{cases}

@@ -4,7 +4,7 @@ use mathlib.Core.List.{List, [], _∷_}
 use Prim.Native.Nat.{ℕ}
 use lib.IntN.{pos, negℤ}
 use Rattle.rules.specs.Table.{Problem}
-use Rattle.tenths.specs.Cases.{float}
+use Rattle.tenths.specs.Rounding.{float}
 use Rattle.cases.specs.Jobs.{Job, problem, lasting}
 use Rattle.cases.specs.Claims.{Claim, plans, noPlan, least, touching, offered, tenths, takes, refuses}
 

@@ -2,4 +2,4 @@ pub mod Largest
 pub mod Floor
 pub mod Parts
 pub mod Range
-pub mod Cases
+pub mod Rounding

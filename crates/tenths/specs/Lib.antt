@@ -1,3 +1,3 @@
 pub mod Tenths
 pub mod Bits
-pub mod Cases
+pub mod Rounding

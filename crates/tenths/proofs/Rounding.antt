@@ -1,17 +1,12 @@
--- P9 and P10 hold, and rounding the product breaks the rule: by computation. Assumes nothing.
+-- Rounding the product breaks the rule: by computation. Assumes nothing.
 use mathlib.Core.Path.{_≡_, refl}
-use mathlib.Core.List.{_++_}
 use Prim.Native.Nat.{ℕ}
 use native.Mathlib.Omega.{arith}
 use lib.IntN.{pos}
 use lib.Dec.{T}
 use Rattle.tenths.specs.Tenths.{inRange, AreTenths, tenths}
-use Rattle.tenths.specs.Cases.{AllGive, p9, p10, float, twoThree, roundedTenths}
+use Rattle.tenths.specs.Rounding.{float, twoThree, roundedTenths}
 use Rattle.tenths.proofs.Largest.{tenths-only}
-
-pub p9-p10 : AllGive (p9 ++ p10)
-unfolding tenths float
-p9-p10 = (refl, (refl, (refl, (refl, (refl, tt)))))
 
 -- 2.3 is in range and has 22 tenths; the rounded product, cut, gives 23
 pub two-three-in : T (inRange twoThree)
