@@ -2,7 +2,7 @@
 -- Assumes nothing.
 use mathlib.Core.Path.{_≡_, refl, sym, ap, ap₂, _∙_, subst, fun-ext}
 use mathlib.Core.Logic.{_⊎_, inl, inr}
-use mathlib.Core.Bool.{Bool, true, false, not, _&&_, _||_}
+use mathlib.Core.Bool.{Bool, true, false, not, _&&_, _||_, and-assoc, and-false}
 use mathlib.Core.List.{List}
 use Prim.Native.Nat.{ℕ, _+_, _≤_, _<_}
 use native.Mathlib.Nat.{add-zero}
@@ -24,7 +24,7 @@ use Rattle.tables.specs.Tables.{problem}
 use Rattle.verdict.specs.Offered.{chosen}
 use Rattle.named.specs.declared.Row.{Row}
 use Rattle.named.specs.Named.{inRow, wants, RowOf}
-use Rattle.named.proofs.Tests.{and-false, fit-yes, fit-no, no-fact, any-if}
+use Rattle.named.proofs.Tests.{fit-yes, fit-no, no-fact, any-if}
 use Rattle.bindings.specs.Bindings.{pick, rowByte}
 
 -- ── the byte of a fact ──
@@ -83,17 +83,13 @@ passing-at g n w k h l = h k ∙ ap (λ (b : Bool). b && g k) (lt-ltb k n l)
 
 -- ── a row as the rules say it ──
 
-assoc : (x c j : Bool) → ((x && c) && j) ≡ (x && (c && j))
-assoc true c j = refl
-assoc false c j = refl
-
 -- the jobs that give a fact in a job's row are the named supports of its conditions, if it is in
 pub feeds-of : (P : Problem) (bound : ℕ) (s : Plan) (b a : ℕ) (r : Row) (e : Bool) → e ≡ false → RowOf P s (inRow e P bound s b) (wants e P s b) r → a < P .count
     → any (has (getD (r .by) a 0)) 64 ≡ (inPlan s b && feeds P s a b)
 unfolding inRow wants feeds
 feeds-of P bound s b a r true z h l = absurd (subst T z tt)
 feeds-of P bound s b a r false z h l =
-    ap (λ (f : ℕ → Bool). any f 64) (fun-ext (λ p. h .by a l p ∙ assoc (inPlan s b) (has (P .conditions b) p) (isJob a (named P s p (job P s b)))))
+    ap (λ (f : ℕ → Bool). any f 64) (fun-ext (λ p. h .by a l p ∙ and-assoc (inPlan s b) (has (P .conditions b) p) (isJob a (named P s p (job P s b)))))
     ∙ any-if (inPlan s b) (λ p. has (P .conditions b) p && isJob a (named P s p (job P s b))) 64
 
 pub byte-row : (P : Problem) (bound : ℕ) (s : Plan) (b p : ℕ) (r : Row) (e : Bool) → RowOf P s (inRow e P bound s b) (wants e P s b) r → rowByte r (P .count) p ≡ byteOf e P bound s b p
@@ -121,7 +117,7 @@ module _ (l : Loaded) (q : Ask) (s : List ℕ) (a b : ℕ) where
   -- a job that is out binds nothing
   pub binds-out : getD s b 0 ≡ 65535 → false ≡ binds (problem l q) (starts s) a b
   unfolding binds inPlan
-  binds-out e = simp (eq-eqb _ _ e) (and-false (chosen (getD s a 0)))
+  binds-out e = simp (eq-eqb _ _ e) (sym (and-false (chosen (getD s a 0))))
 
   -- nor does a job that is not over in time
   pub binds-no : {y : Bool} → y ≡ (chosen (getD s a 0) && leb (getD s a 0 + getD (l .durations) a 0) (getD s b 0)) → y ≡ false → false ≡ binds (problem l q) (starts s) a b

@@ -2,7 +2,7 @@
 -- Assumes nothing.
 use mathlib.Core.Path.{_≡_, refl, sym, subst, _∙_}
 use mathlib.Core.Logic.{inl, inr, ⊎-elim, _≢_}
-use mathlib.Core.Bool.{Bool, true, false, not, _&&_, false≢true}
+use mathlib.Core.Bool.{Bool, true, false, not, _&&_}
 use mathlib.Core.List.{List}
 use Prim.Native.Nat.{ℕ, _+_, _<_, _^_}
 use native.Mathlib.Omega.{arith}
@@ -13,7 +13,7 @@ use borrow.Author.Tests.{lt-ltb, not-true, not-false, eqb-true, eqb-false}
 use Rattle.facts.specs.Facts.{has, Decides}
 use Rattle.rules.specs.Table.{InOrder}
 use Rattle.rules.specs.Supports.{Support, start, nobody, by}
-use Rattle.facts.proofs.Bools.{below-suc, and-of, and-l, and-r, T?, test-yes, test-no}
+use Rattle.facts.proofs.Bools.{below-suc, and-of, and-l, and-r, T?, says-no, says-test}
 use Rattle.states.specs.State.{Search, Dead, Who, task, goal, Other, late, done, useless, serves, Killer, MayJob, SafeJob, OpenPair, there, Wants, May}
 use Rattle.orders.specs.declared.State.{State}
 use Rattle.orders.specs.View.{view, FreeJob, FreePair, orBit}
@@ -28,15 +28,6 @@ pub who-job : (b : ℕ) → b < 24 → who b ≡ task b
 who-job b l = rw (lt-ltb b 24 l)
 
 -- ── answers ──
-
-pub says-no : {X : Type 0} → (X → ⊥) → Decides false X
-says-no h = record { yea = λ e. absurd (false≢true e); nay = λ e. h }
-
-pub says-test : {X : Type 0} {r x : Bool} → r ≡ x → (T x → X) → (X → T x) → Decides r X
-says-test e f g = record { yea = λ h. f (test-yes e h); nay = λ h y. test-no e h (g y) }
-
-pub says-not : {X : Type 0} {r x : Bool} → r ≡ x → ((T x → ⊥) → X) → (X → T x → ⊥) → Decides (not r) X
-says-not {r = r} e f g = record { yea = λ h. f (test-no e (not-true r h)); nay = λ h y. g y (test-yes e (not-false r h)) }
 
 -- the branch on !r, where r decides
 pub no-of : {X : Type 0} {r : Bool} → Decides r X → not r ≡ true → X → ⊥

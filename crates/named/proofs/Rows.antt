@@ -1,13 +1,13 @@
 -- Named supports by words: Start takes its facts first, then each job what is left.
 -- Assumes nothing.
 use mathlib.Core.Path.{_≡_, refl, sym, ap, ap₂, _∙_, subst}
-use mathlib.Core.Bool.{Bool, true, false, not, _&&_, _||_}
+use mathlib.Core.Bool.{Bool, true, false, not, _&&_, _||_, and-true}
 use Prim.Native.Nat.{ℕ, _+_, _<_}
 use native.Mathlib.Omega.{arith}
 use lib.Dec.{T, eqb→eq, T-not, not-T}
 use Rattle.facts.specs.Facts.{has, Word}
 use Rattle.facts.specs.Least.{least, any}
-use Rattle.facts.proofs.Bools.{and-l, and-r, and-of, same, eqb-of}
+use Rattle.facts.proofs.Bools.{and-l, and-r, and-of, same, eqb-of, and-neither}
 use Rattle.facts.proofs.Least.{lowest, least-is, any-of, any-at, least-hit, any-more}
 use Rattle.rules.specs.Table.{Problem}
 use Rattle.rules.specs.Plans.{Plan}
@@ -15,14 +15,8 @@ use Rattle.rules.specs.Supports.{Consumer, startFits, jobFits, name, named}
 use Rattle.rules.specs.Pairs.{isJob}
 use Rattle.named.specs.declared.Row.{Row}
 use Rattle.named.specs.Named.{RowOf}
-use Rattle.named.proofs.Tests.{and-true}
 
 -- ── who is named ──
-
-less-more : (x a j : Bool) → ((x && not a) && not j) ≡ (x && not (a || j))
-less-more true true j = refl
-less-more true false j = refl
-less-more false a j = refl
 
 regroup : (w x a j : Bool) → (((w && x) && a) && j) ≡ (w && ((x && a) && j))
 regroup true x a j = refl
@@ -58,11 +52,11 @@ module _ (P : Problem) (s : Plan) (c : Consumer) (want : ℕ) where
 
   pub left-first : (w : ℕ) → Word (λ p. has want p && not (startFits P s p c)) w → Left 0 w
   unfolding any least
-  left-first w h p = h p ∙ and-true _
+  left-first w h p = h p ∙ sym (and-true _)
 
   pub left-more : (k w f v : ℕ) → Left k w → Word (λ p. jobFits P s p c k) f → Word (λ p. has w p && not (has f p)) v → Left (k + 1) v
   left-more k w f v l g h p =
-      h p ∙ ap₂ (λ (x y : Bool). x && not y) (l p) (g p) ∙ less-more (has want p && not (startFits P s p c)) (any (jobFits P s p c) k) (jobFits P s p c k)
+      h p ∙ ap₂ (λ (x y : Bool). x && not y) (l p) (g p) ∙ and-neither (has want p && not (startFits P s p c)) (any (jobFits P s p c) k) (jobFits P s p c k)
       ∙ ap (λ (x : Bool). (has want p && not (startFits P s p c)) && not x) (sym (any-more (jobFits P s p c) k))
 
   -- job k takes the facts that are left and that it fits

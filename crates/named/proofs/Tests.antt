@@ -1,7 +1,7 @@
 -- Tests in the order of the code.
 -- Assumes nothing.
 use mathlib.Core.Path.{_≡_, refl, sym, subst}
-use mathlib.Core.Bool.{Bool, true, false, _&&_, _||_}
+use mathlib.Core.Bool.{Bool, true, false, _&&_, and-true, and-false}
 use Prim.Native.Nat.{ℕ}
 use lib.Dec.{T}
 use Rattle.facts.specs.Facts.{has}
@@ -12,17 +12,9 @@ use Rattle.facts.proofs.Least.{any-none}
 
 -- ── tests in the order of the code ──
 
-pub and-true : (b : Bool) → b ≡ (b && true)
-and-true true = refl
-and-true false = refl
-
-pub and-false : (b : Bool) → false ≡ (b && false)
-and-false true = refl
-and-false false = refl
-
 pub way : (c h o x y : Bool) → (h && ((c && (x && y)) && o)) ≡ (c && (h && (o && (x && y))))
-way c false o x y = and-false c
-way true true true true y = sym (and-true y)
+way c false o x y = sym (and-false c)
+way true true true true y = and-true y
 way true true true false y = refl
 way true true false true true = refl
 way true true false true false = refl
@@ -39,10 +31,6 @@ fit-no true h true z e = absurd (subst T e tt)
 fit-no true true false z e = refl
 fit-no true false false z e = refl
 fit-no false h y z e = refl
-
-pub or-false : (b : Bool) → b ≡ (b || false)
-or-false true = refl
-or-false false = refl
 
 -- no fact is in the word 0
 pub no-fact : (p : ℕ) → has 0 p ≡ false

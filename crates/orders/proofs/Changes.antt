@@ -8,7 +8,7 @@ use native.Mathlib.Decide.{ℕ-discrete}
 use lib.Bits.{bitOr}
 use lib.Dec.{T, eqb, eqb→eq, eqb-refl}
 use Rattle.facts.proofs.Bools.{or-l, or-r, or-cases}
-use Rattle.facts.proofs.Sets.{word-with, has-or}
+use Rattle.facts.proofs.Sets.{word-with, has-or, has-pow}
 use lib.ListN.{getD, set, length}
 use lib.Seq.{getD-set-same, getD-set-other}
 use mathlib.Core.List.{List}
@@ -27,32 +27,6 @@ bit-new w q = subst T (sym (word-with w q q)) (or-r (has w q) (eqb q q) (eqb-ref
 
 pub bit-cases : (w q p : ℕ) → T (has (bitOr w (2 ^ q)) p) → T (has w p) ⊎ (p ≡ q)
 bit-cases w q p h = ⊎-elim inl (λ e. inr (eqb→eq p q e)) (or-cases (has w p) (eqb p q) (subst T (word-with w q p) h))
-
--- a row of words with one bit more
-module _ (l : List ℕ) (a b : ℕ) (hb : b < length l) where
-  abbrev more-row : List ℕ
-  more-row = set l b (bitOr (getD l b 0) (2 ^ a))
-
-  pub row-new : T (has (getD more-row b 0) a)
-  row-new = rw (getD-set-same l b (bitOr (getD l b 0) (2 ^ a)) 0 hb) (bit-new (getD l b 0) a)
-
-  pub row-keep : (x y : ℕ) → T (has (getD l y 0) x) → T (has (getD more-row y 0) x)
-  row-keep x y h = go (ℕ-discrete y b)
-    where
-      go : Dec (y ≡ b) → T (has (getD more-row y 0) x)
-      go (yes e) = rw e (rw (getD-set-same l b (bitOr (getD l b 0) (2 ^ a)) 0 hb) (bit-keep (getD l b 0) a x (rw e at h)))
-      go (no e) = rw (getD-set-other l b y (bitOr (getD l b 0) (2 ^ a)) 0 e) h
-
-  pub row-cases : (x y : ℕ) → T (has (getD more-row y 0) x) → T (has (getD l y 0) x) ⊎ ((x ≡ a) × (y ≡ b))
-  row-cases x y h = go (ℕ-discrete y b)
-    where
-      same : y ≡ b → T (has (getD l b 0) x) ⊎ (x ≡ a) → T (has (getD l y 0) x) ⊎ ((x ≡ a) × (y ≡ b))
-      same e (inl k) = inl (rw e k)
-      same e (inr k) = inr (k, e)
-
-      go : Dec (y ≡ b) → T (has (getD l y 0) x) ⊎ ((x ≡ a) × (y ≡ b))
-      go (yes e) = same e (bit-cases (getD l b 0) a x (rw (getD-set-same l b (bitOr (getD l b 0) (2 ^ a)) 0 hb) at (rw e at h)))
-      go (no e) = inl (rw (getD-set-other l b y (bitOr (getD l b 0) (2 ^ a)) 0 e) at h)
 
 -- a row of words with the bits of v more
 module _ (l : List ℕ) (v b : ℕ) (hb : b < length l) where
@@ -76,6 +50,20 @@ module _ (l : List ℕ) (v b : ℕ) (hb : b < length l) where
       go : Dec (y ≡ b) → T (has (getD l y 0) x) ⊎ (T (has v x) × (y ≡ b))
       go (yes e) = same e (or-cases (has (getD l b 0) x) (has v x) (subst T (has-or (getD l b 0) v x) (rw (getD-set-same l b (bitOr (getD l b 0) v) 0 hb) at (rw e at h))))
       go (no e) = inl (rw (getD-set-other l b y (bitOr (getD l b 0) v) 0 e) at h)
+
+-- one bit more
+module _ (l : List ℕ) (a b : ℕ) (hb : b < length l) where
+  abbrev more-row : List ℕ
+  more-row = more-bits l (2 ^ a) b hb
+
+  pub row-new : T (has (getD more-row b 0) a)
+  row-new = rw (getD-set-same l b (bitOr (getD l b 0) (2 ^ a)) 0 hb) (bit-new (getD l b 0) a)
+
+  pub row-keep : (x y : ℕ) → T (has (getD l y 0) x) → T (has (getD more-row y 0) x)
+  row-keep = bits-keep l (2 ^ a) b hb
+
+  pub row-cases : (x y : ℕ) → T (has (getD more-row y 0) x) → T (has (getD l y 0) x) ⊎ ((x ≡ a) × (y ≡ b))
+  row-cases x y h = ⊎-elim inl (λ e. inr (eqb→eq x a (subst T (has-pow a x) (e .0)), e .1)) (bits-cases l (2 ^ a) b hb x y h)
 
 -- a row of numbers with one changed
 pub at-set : (l : List ℕ) (j v i : ℕ) → j < length l → ((i ≡ j) × (getD (set l j v) i 0 ≡ v)) ⊎ (getD (set l j v) i 0 ≡ getD l i 0)

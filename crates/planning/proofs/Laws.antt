@@ -11,7 +11,7 @@ use native.Mathlib.Numerals.{add-one}
 use lib.ListN.{getD, replicate, getD-replicate, length-replicate}
 use native.Mathlib.Decide.{decLt}
 use Rattle.facts.specs.Facts.{has, Decides}
-use Rattle.facts.proofs.Bools.{test-yes, test-no, below-suc, eqb-not, not-eqb, same}
+use Rattle.facts.proofs.Bools.{below-suc, eqb-not, not-eqb, same, says-no, says-test}
 use Rattle.facts.proofs.Sets.{has-zero}
 use Rattle.facts.proofs.Lists.{getD-past}
 use Rattle.rules.specs.Table.{Problem, InOrder}
@@ -37,10 +37,10 @@ use Rattle.planning.specs.Derived.{RootJob, Rooted, ByFact, AllHit, Read
 
 -- a job that is not below n, and one that is
 pub within-no : {n j : ℕ} {A : Type 0} → n ≤ j → Decides false ((j < n) × A)
-within-no l = record { yea = λ e. absurd (let z : _≡_ {A = Bool} true false = sym e in subst T z tt); nay = λ e h. omega (arith, h .0) }
+within-no l = says-no (λ h. omega (arith, h .0))
 
 pub within-yes : {n j : ℕ} {r t : Bool} → j < n → r ≡ t → Decides r ((j < n) × T t)
-within-yes l e = record { yea = λ h. (l, test-yes e h); nay = λ h x. test-no e h (x .1) }
+within-yes l e = says-test e (λ x. (l, x)) (λ x. x .1)
 
 -- a row of one number
 pub row-of : (n i v : ℕ) → (i < n → v ≡ 0) → getD (replicate n v) i 0 ≡ 0

@@ -2,14 +2,14 @@
 -- Assumes nothing.
 use mathlib.Core.Path.{_≡_, refl, sym, subst, ap}
 use mathlib.Core.Logic.{_≢_, ⊎-elim}
-use mathlib.Core.Bool.{Bool, false, true≢false}
+use mathlib.Core.Bool.{Bool}
 use Prim.Native.Nat.{ℕ, _+_, _≤_, _<_, _^_}
 use native.Mathlib.Omega.{arith}
 use lib.Dec.{T}
 use lib.ListN.{getD}
 use lib.Bits.{bitOr}
 use mathlib.Core.List.{List}
-use Rattle.facts.specs.Facts.{has, Decides}
+use Rattle.facts.specs.Facts.{has}
 use Rattle.rules.specs.Table.{InOrder, deletes}
 use Rattle.rules.specs.Supports.{Support, start, nobody, by}
 use Rattle.states.specs.State.{Search, More, Keeps, Dead, Must, Out, Sure, Who, task, goal, Wants, there, Forced, ForcedStart, late, May, MayStart, MayJob, Low}
@@ -127,7 +127,3 @@ module _ {C A K : List ℕ} {ask : Ask} {P : Search} (k : Known C A K ask P) whe
 
   pub wants-job : (b : ℕ) → b < 24 → WantsAll P b (getD C b 0)
   wants-job b l p h = subst (λ (v : Who). Wants P v p) (sym (who-job b l)) (subst (λ (y : ℕ). T (has y p)) (sym (k .conds b l)) h)
-
--- what is not so is decided by false
-pub never : {A : Type 0} → (A → ⊥) → Decides false A
-never n = record { yea = λ e. absurd (true≢false (sym e)); nay = λ e. n }

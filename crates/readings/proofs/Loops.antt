@@ -1,10 +1,11 @@
 -- One mark more: what a turn of each loop adds. Assumes nothing.
-use mathlib.Core.Path.{_≡_, refl, sym, _∙_}
-use mathlib.Core.Bool.{Bool, true, false, not, _&&_, _||_, or-assoc, or-false, and-true}
+use mathlib.Core.Path.{sym, _∙_}
+use mathlib.Core.Bool.{Bool, not, _&&_, _||_, or-assoc, or-false, and-true}
 use Prim.Native.Nat.{ℕ, _+_}
 use Rattle.facts.specs.Facts.{has, Word}
 use Rattle.facts.specs.Least.{any}
 use Rattle.facts.proofs.Least.{any-more}
+use Rattle.facts.proofs.Bools.{and-neither}
 
 -- the first turn
 pub with-none : (f : ℕ → ℕ → Bool) (w : ℕ) → Word (λ p. has w p || any (f p) 0) w
@@ -19,10 +20,5 @@ without-none f w p = sym (and-true (has w p))
 pub with-more : (f : ℕ → ℕ → Bool) (w v u i : ℕ) → Word (λ p. has w p || any (f p) i) v → Word (λ p. has v p || f p i) u → Word (λ p. has w p || any (f p) (i + 1)) u
 with-more f w v u i x y p = y p ∙ rw (x p, any-more (f p) i) (or-assoc (has w p) (any (f p) i) (f p i))
 
-less : (a b c : Bool) → (a && not b && not c) ≡ (a && not (b || c))
-less true true c = refl
-less true false c = refl
-less false b c = refl
-
 pub without-more : (f : ℕ → ℕ → Bool) (w v u i : ℕ) → Word (λ p. has w p && not (any (f p) i)) v → Word (λ p. has v p && not (f p i)) u → Word (λ p. has w p && not (any (f p) (i + 1))) u
-without-more f w v u i x y p = y p ∙ rw (x p, any-more (f p) i) (less (has w p) (any (f p) i) (f p i))
+without-more f w v u i x y p = y p ∙ rw (x p, any-more (f p) i) (and-neither (has w p) (any (f p) i) (f p i))

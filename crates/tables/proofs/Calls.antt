@@ -7,7 +7,8 @@ use lib.Dec.{T, ltb}
 use Rattle.facts.proofs.Bools.{or-l}
 use Rattle.rules.specs.Refusals.{Verdict, accepted}
 use Rattle.rules.proofs.Refused.{Checks, if-checks, then-checks, table-checks, if-zero}
-use Rattle.rules.proofs.Checked.{Passed, passed}
+use Rattle.rules.proofs.Checked.{Passed, passed, in-order}
+use Rattle.rules.specs.Table.{InOrder}
 use Rattle.tables.specs.declared.Loaded.{Loaded}
 use Rattle.tables.specs.declared.Ask.{Ask}
 use Rattle.tables.specs.declared.Answer.{Answer}
@@ -27,3 +28,7 @@ long-enough short l q e s = if-zero (short || ltb (l .lent) (q .jobs)) 3 0 _ (om
 
 pub call-passed : (short : Bool) (l : Loaded) (q : Ask) → callChecks short l q accepted ≡ accepted → Passed (problem l q)
 call-passed short l q e = passed (problem l q) (if-zero (short || ltb (l .lent) (q .jobs)) 3 0 _ (omega arith) e .1)
+
+-- and the problem is in order
+pub call-order : (short : Bool) (l : Loaded) (q : Ask) → callChecks short l q accepted ≡ accepted → InOrder (problem l q)
+call-order short l q e = in-order (problem l q) (if-zero (short || ltb (l .lent) (q .jobs)) 3 0 _ (omega arith) e .1)

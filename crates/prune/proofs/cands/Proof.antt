@@ -1,10 +1,9 @@
-use Rattle.prune.proofs.Laws.{never}
 use Prim.Native.Nat.{_+_, _-_, _≤_, ℕ}
 use mathlib.Core.Logic.{⊎-elim}
 use mathlib.Core.Path.{refl, sym, subst, _≡_}
 use native.Mathlib.Omega.{arith}
 use borrow.Author.Needs.{needs}
-use Rattle.facts.proofs.Bools.{test-no}
+use Rattle.facts.proofs.Bools.{test-no, says-no}
 use Rattle.flaws.specs.Flaw.{who, Cols, Scene}
 use Rattle.orders.specs.View.{view}
 use Rattle.states.specs.State.{Search, MayJob}
@@ -37,7 +36,7 @@ loop-less : tie.Need-loop-less Inv-loop μ-loop
 loop-less c = search needs
 
 loop-again : tie.Need-loop-again Inv-loop μ-loop
-loop-again c = let l = c .before .before .before .loop in let b = c .before .before .before .before .args .b in let s = c .before .before .before .before .args .s in (omega arith, λ P p R k. ⊎-elim (λ x. subst (λ (w : ℕ). Cols (MayJob P (view s) p (who b)) w (l .a + 1)) (sym (x .3)) (fl.cols-next (l .inv .1 P p R k) (x .1 .ensures P p R k) (x .2 .ensures))) (λ x. subst (λ (w : ℕ). Cols (MayJob P (view s) p (who b)) w (l .a + 1)) (sym (x .1)) (fl.cols-next (l .inv .1 P p R k) (never (λ m. test-no (c .before .has .ensures) (x .0 .left) (k .adders .at (l .a) (omega arith) (m .below, m .gives)))) refl)) (c .if1 .came))
+loop-again c = let l = c .before .before .before .loop in let b = c .before .before .before .before .args .b in let s = c .before .before .before .before .args .s in (omega arith, λ P p R k. ⊎-elim (λ x. subst (λ (w : ℕ). Cols (MayJob P (view s) p (who b)) w (l .a + 1)) (sym (x .3)) (fl.cols-next (l .inv .1 P p R k) (x .1 .ensures P p R k) (x .2 .ensures))) (λ x. subst (λ (w : ℕ). Cols (MayJob P (view s) p (who b)) w (l .a + 1)) (sym (x .1)) (fl.cols-next (l .inv .1 P p R k) (says-no (λ m. test-no (c .before .has .ensures) (x .0 .left) (k .adders .at (l .a) (omega arith) (m .below, m .gives)))) refl)) (c .if1 .came))
 
 returns : tie.Need-returns Inv-loop μ-loop
 returns c P p R k = let e : c .before .loop .a ≡ 24 = omega arith in rw e at (c .before .loop .inv .1 P p R k)

@@ -3,7 +3,7 @@ use native.Mathlib.Omega.{arith}
 use Prim.Native.Nat.{_+_}
 use Rattle.orders.proofs.Tests.{passed, failed}
 use Rattle.facts.specs.Facts.{has}
-use Rattle.flaws.proofs.Flaws as fl
+use Rattle.facts.proofs.Bools.{says-no}
 use Rattle.search.proofs.Leaves as lv
 use Rattle.search.proofs.violated_at.Statement.{statement}
 use Rattle.search.proofs.violated_at.Tie as tie
@@ -12,13 +12,13 @@ has-requires : tie.Need-has-requires
 has-requires c κs = search needs
 
 returns : tie.Need-returns
-returns c = fl.says-no (λ v. failed (c .before .has .ensures) (c .if1 .taken) (v .first))
+returns c = says-no (λ v. failed (c .before .has .ensures) (c .if1 .taken) (v .first))
 
 has-requires-2 : tie.Need-has-requires-2
 has-requires-2 c κs = search needs
 
 returns-2 : tie.Need-returns-2
-returns-2 c = fl.says-no (λ v. failed (c .before .has2 .ensures) (c .if2 .taken) (v .second))
+returns-2 c = says-no (λ v. failed (c .before .has2 .ensures) (c .if2 .taken) (v .second))
 
 mul-w : tie.Need-mul-w
 mul-w c = search needs
@@ -30,7 +30,7 @@ has-requires-3 : tie.Need-has-requires-3
 has-requires-3 c κs = search needs
 
 returns-3 : tie.Need-returns-3
-returns-3 c = fl.says-no (λ v. failed (c .before .has3 .ensures) (c .if3 .taken) (v .order))
+returns-3 c = says-no (λ v. failed (c .before .has3 .ensures) (c .if3 .taken) (v .order))
 
 mul-wide : tie.Need-mul-wide
 mul-wide c = search needs
