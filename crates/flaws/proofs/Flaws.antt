@@ -14,10 +14,10 @@ use Rattle.facts.specs.Facts.{has, Decides}
 use Rattle.rules.specs.Table.{InOrder}
 use Rattle.rules.specs.Supports.{Support, start, nobody, by}
 use Rattle.facts.proofs.Bools.{below-suc, and-of, and-l, and-r, T?, says-no, says-test}
-use Rattle.states.specs.State.{Search, Dead, Who, task, goal, Other, late, done, useless, serves, Killer, MayJob, SafeJob, OpenPair, there, Wants, May}
+use Rattle.states.specs.State.{Search, Dead, Who, task, goal, Other, late, done, useless, serves, Killer, MayJob, SafeJob, OpenPair, there, Wants, May, MayStart}
 use Rattle.orders.specs.declared.State.{State}
 use Rattle.orders.specs.View.{view, FreeJob, FreePair, orBit}
-use Rattle.flaws.specs.Flaw.{who, whoOf, Cols, Deletes, Danger, Unsettled, Lack, Picks, Alike, Sooner, Urgent, Scene, SomeSafe, NoneBelow, NoMay, Looked, Lists, Known, AllSafe, OneLost, SafeFor}
+use Rattle.flaws.specs.Flaw.{who, whoOf, Cols, Deletes, Danger, Unsettled, Lack, Picks, Alike, Sooner, Urgent, Sight, Scene, SomeSafe, NoneBelow, NoMay, Looked, Lists, Known, AllSafe, OneLost, SafeFor}
 use Rattle.flaws.specs.declared.Ask.{Ask}
 use Rattle.flaws.specs.declared.Choice.{Choice}
 use Rattle.orders.proofs.Changes.{bit-keep, bit-new, bit-cases}
@@ -100,13 +100,13 @@ module _ (P : Search) (s : State) (p b d kills : ℕ) (k : Cols (Deletes P p) ki
 
 -- ── candidates ──
 
-clear-of : (P : Search) (s : State) (p b a A G R : ℕ) → Scene P s p b A G R → bitAnd (getD (s .never) a 0) G ≡ 0
+clear-of : (P : Search) (s : State) (p b a A G : ℕ) → Sight P s p b A G → bitAnd (getD (s .never) a 0) G ≡ 0
     → (d : ℕ) → Killer P (view s) p (who b) d → T (view s .never d a) → T (late (view s) (who b) d) → ⊥
-clear-of P s p b a A G R c e d k n l =
+clear-of P s p b a A G c e d k n l =
     let g : T (has G d) = c .dangers .at d (omega (arith, c .count, k .below)) (record { killer = k; late = l }) in
     has-zero d (rw e at (bit-and-of (getD (s .never) a 0) G d n g))
 
-module _ (P : Search) (s : State) (p b a A G R : ℕ) (c : Scene P s p b A G R) where
+module _ (P : Search) (s : State) (p b a A G : ℕ) (c : Sight P s p b A G) where
   pub may-self : a < 24 → a ≡ b → MayJob P (view s) p (who b) a → ⊥
   may-self l e m = other-not b a l (m .other) e
 
@@ -124,7 +124,7 @@ module _ (P : Search) (s : State) (p b a A G R : ℕ) (c : Scene P s p b A G R) 
           free = f;
           other = other-who b a ne;
           before = u;
-          clear = clear-of P s p b a A G R c (eqb-true (bitAnd (getD (s .never) a 0) G) 0 e);
+          clear = clear-of P s p b a A G c (eqb-true (bitAnd (getD (s .never) a 0) G) 0 e);
         };
         nay = λ e m. (
             let i = some-fact (bitAnd (getD (s .never) a 0) G) (eqb-false (bitAnd (getD (s .never) a 0) G) 0 e) in
@@ -213,7 +213,7 @@ module _ (P : Search) (s : State) (p b a A G R : ℕ) (c : Scene P s p b A G R) 
     gives = m .gives;
     inside = i;
     before = h;
-    clear = λ d k. ⊎-elim inr (λ n. inl (l .none e d (omega (arith, c .count, k .below)) (c .rest .at d (omega (arith, c .count, k .below)) (record { killer = k; free = n })))) (T? (done (view s) (who b) d));
+    clear = λ d k. ⊎-elim inr (λ n. inl (l .none e d (omega (arith, c .seen .count, k .below)) (c .rest .at d (omega (arith, c .seen .count, k .below)) (record { killer = k; free = n })))) (T? (done (view s) (who b) d));
   }
 
   pub sup-after : {d : ℕ} → Lack R (getD (s .sure) a 0) d → d < 24 → T (has (getD (s .never) a 0) d) → FreePair s b d
@@ -231,16 +231,20 @@ module _ (P : Search) (s : State) (p b a A G R : ℕ) where
 
 -- ── one condition ──
 
+-- where there is a danger, Start is no candidate
+pub danger-bars : (P : Search) (s : State) (p b A G : ℕ) → Sight P s p b A G → (G ≡ 0 → ⊥) → MayStart P (view s) p (who b) → ⊥
+danger-bars P s p b A G c n m = let i = some-fact G n in let g = c .dangers .of (i .0) (i .1) .1 in m .clear (i .0) (g .killer) (g .late)
+
 module _ (P : Search) (s : State) (p b A G R : ℕ) (c : Scene P s p b A G R) where
   no-danger : G ≡ 0 → (d : ℕ) → Killer P (view s) p (who b) d → T (late (view s) (who b) d) → ⊥
-  no-danger e d k l = has-zero d (rw e at (c .dangers .at d (omega (arith, c .count, k .below)) (record { killer = k; late = l })))
+  no-danger e d k l = has-zero d (rw e at (c .seen .dangers .at d (omega (arith, c .seen .count, k .below)) (record { killer = k; late = l })))
 
   pub start-safe : T (has (P .problem .opening) p) → {d : ℕ} → Lack R 0 d → d ≡ 24 → SomeSafe P s p b
   start-safe o l e = (
     start,
     record {
       given = o;
-      clear = λ d k. ⊎-elim (λ x. x) (λ n. absurd (has-zero d (l .none e d (omega (arith, c .count, k .below)) (c .rest .at d (omega (arith, c .count, k .below)) (record { killer = k; free = n }))))) (T? (done (view s) (who b) d));
+      clear = λ d k. ⊎-elim (λ x. x) (λ n. absurd (has-zero d (l .none e d (omega (arith, c .seen .count, k .below)) (c .rest .at d (omega (arith, c .seen .count, k .below)) (record { killer = k; free = n }))))) (T? (done (view s) (who b) d));
     },
   )
 
@@ -248,18 +252,21 @@ module _ (P : Search) (s : State) (p b A G R : ℕ) (c : Scene P s p b A G R) wh
   start-threat e {d} l h = let u = c .rest .of d (l .here h) .1 in pair-with s b d h (u .free) (no-danger e d (u .killer))
 
   pub none-danger : (G ≡ 0 → ⊥) → NoneBelow P s p b 24 → NoMay P s p b
-  none-danger n f start m = let i = some-fact G n in let g = c .dangers .of (i .0) (i .1) .1 in m .clear (i .0) (g .killer) (g .late)
+  none-danger n f start m = danger-bars P s p b A G (c .seen) n m
   none-danger n f nobody m = m
-  none-danger n f (by a) m = f a (omega (arith, c .count, m .below)) m
+  none-danger n f (by a) m = f a (omega (arith, c .seen .count, m .below)) m
 
   pub none-given : (T (has (P .problem .opening) p) → ⊥) → NoneBelow P s p b 24 → NoMay P s p b
   none-given n f start m = n (m .given)
   none-given n f nobody m = m
-  none-given n f (by a) m = f a (omega (arith, c .count, m .below)) m
+  none-given n f (by a) m = f a (omega (arith, c .seen .count, m .below)) m
+
+pub sight : (P : Search) (s : State) (p b O A K G : ℕ) → Looked P p O A K → (Cols (Deletes P p) K 24 → Cols (Danger P s p b) G 24) → Sight P s p b A G
+sight P s p b O A K G l g = record { count = l .count; adders = l .adders; dangers = g (l .killers) }
 
 pub scene : (P : Search) (s : State) (p b O A K G R : ℕ) → Looked P p O A K
     → (Cols (Deletes P p) K 24 → Cols (Danger P s p b) G 24) → (Cols (Deletes P p) K 24 → Cols (Unsettled P s p b) R 24) → Scene P s p b A G R
-scene P s p b O A K G R l g r = record { count = l .count; adders = l .adders; dangers = g (l .killers); rest = r (l .killers) }
+scene P s p b O A K G R l g r = record { seen = sight P s p b O A K G l g; rest = r (l .killers) }
 
 pub looked : {P : Search} {O : ℕ} {A K : List ℕ} → Lists P O A K → (p : ℕ) → p < 64 → Looked P p O (getD A p 0) (getD K p 0)
 looked l p h = record { count = l .count; opening = l .opening; adders = l .adders p h; killers = l .killers p h }

@@ -97,11 +97,15 @@ Sooner best c r = (r ≡ c) ⊎ ((r ≡ best) × (best .kind ≢ 1))
 abbrev pub Urgent : (best c r : Choice) → Type 0
 Urgent best c r = ((r ≡ c) × (c .kind ≢ 0)) ⊎ ((r ≡ best) × (best .kind ≡ 0 → c .kind ≡ 0))
 
--- one fact of one consumer, and its words: adders, dangers, unsettled
-pub record Scene (P : Search) (s : State) (p b A G R : ℕ) : Type 0 where
+-- one fact of one consumer, and its words of adders and dangers
+pub record Sight (P : Search) (s : State) (p b A G : ℕ) : Type 0 where
   pub count : P .problem .count ≤ 24
   pub adders : Cols (Gives P p) A 24
   pub dangers : Cols (Danger P s p b) G 24
+
+-- and that of the unsettled
+pub record Scene (P : Search) (s : State) (p b A G R : ℕ) : Type 0 where
+  pub seen : Sight P s p b A G
   pub rest : Cols (Unsettled P s p b) R 24
 
 abbrev pub SomeSafe : Search → State → ℕ → ℕ → Type 0

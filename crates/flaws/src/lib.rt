@@ -8,7 +8,7 @@ ghost use Rattle.rules.specs.Table.{InOrder};
 ghost use Rattle.rules.specs.Plans.{interfere};
 ghost use Rattle.states.specs.State.{Search, late, done, useless, serves, Killer, MayStart, MayJob, SafeJob, Dead};
 ghost use Rattle.orders.specs.View.{view};
-ghost use Rattle.flaws.specs.Flaw.{who, Cols, Deletes, Danger, Unsettled, Picks, Lack, Scene, SomeSafe, NoneBelow, NoMay, Looked, AllSafe, OneLost, SafeFor, Lists, Ordered, Known, Sizes, Sizes3, Hits, RowOrdered, AllOrdered, AllHits, SafeBelowW, NoFlaw, Lent, Alike, Sooner, Urgent};
+ghost use Rattle.flaws.specs.Flaw.{who, Cols, Deletes, Danger, Unsettled, Picks, Lack, Sight, Scene, SomeSafe, NoneBelow, NoMay, Looked, AllSafe, OneLost, SafeFor, Lists, Ordered, Known, Sizes, Sizes3, Hits, RowOrdered, AllOrdered, AllHits, SafeBelowW, NoFlaw, Lent, Alike, Sooner, Urgent};
 use orders::State;
 
 pub struct Choice {
@@ -123,7 +123,7 @@ pub fn dangers(s: State, b: usize, kills: u32) -> u32
 }
 
 // All such jobs of the second kind.
-pub fn unsettled(s: State, b: usize, kills: u32) -> u32
+fn unsettled(s: State, b: usize, kills: u32) -> u32
     requires { ⌜ b ≤ 24 ⌝ }
     ensures { λ r. ⌜ ((P : Search) (p : ℕ) → Cols (Deletes P p) kills 24 → Cols (Unsettled P s p b) r 24) ⌝ }
 {
@@ -138,7 +138,7 @@ pub fn unsettled(s: State, b: usize, kills: u32) -> u32
 // Job a is a candidate for the consumer b.
 pub fn may_job(s: State, b: usize, a: usize, adders: u32, dang: u32) -> bool
     requires { ⌜ (b ≤ 24) × (a < 24) ⌝ }
-    ensures { λ r. ⌜ ((P : Search) (p R : ℕ) → Scene P s p b adders dang R → Decides r (MayJob P (view s) p (who b) a)) ⌝ }
+    ensures { λ r. ⌜ ((P : Search) (p : ℕ) → Sight P s p b adders dang → Decides r (MayJob P (view s) p (who b) a)) ⌝ }
 {
     if a == b {
         return false;

@@ -9,17 +9,16 @@ use lib.Dec.{ltb, ltb→lt, lt→ltb}
 use lib.ListN.{length, getD, replicate}
 use Rattle.facts.proofs.Bools.{at-most}
 use Rattle.rules.specs.Refusals.{Verdict, accepted, refused}
-use Rattle.rules.specs.Table.{boundCheck}
+use Rattle.rules.specs.Table.{boundCheck, InOrder}
 use Rattle.rules.specs.Plans.{starts}
 use Rattle.rules.specs.Pairs.{inOrder}
 use Rattle.rules.proofs.Refused.{if-hit, if-pass, goes-on}
 use Rattle.tables.specs.declared.Loaded.{Loaded}
 use Rattle.tables.specs.declared.Ask.{Ask}
 use Rattle.tables.specs.declared.Answer.{Answer}
-use Rattle.tables.specs.Tables.{problem, answer, callChecks, changed, Judges}
+use Rattle.tables.specs.Tables.{problem, answer, callChecks, changed}
 use Rattle.tables.proofs.Lent.{filled-at}
-use Rattle.tables.proofs.Laws.{numbered}
-use Rattle.tables.proofs.Calls.{call-checks, call-passed, long-enough}
+use Rattle.tables.proofs.Calls.{call-checks, call-passed, long-enough, call-order}
 use Rattle.verdict.specs.Offered.{Given}
 use Rattle.bindings.specs.Bindings.{written}
 use Rattle.planning.specs.Planning.{BoundsWithin}
@@ -53,14 +52,13 @@ plan-pairs ps old {bytes} {n} {at} {r} {xs} {ys} e w l y =
 -- ── a table ──
 
 -- where the least bound is given, the table is in order and the starts are enough
-pub ready : (l : Loaded) (q : Ask) (xs ys : List ℕ) (r : Answer) {A : Type 0} {t : Answer} → length ys ≡ length xs → BoundsWithin l q xs r ys → r .number ≡ 0
-    → Judges (callChecks (ltb (length ys) (q .jobs)) l q accepted) A t → Given q ys × A
-ready l q xs ys r {A} {t} n b z j =
+pub ready : (l : Loaded) (q : Ask) (xs ys : List ℕ) (r : Answer) → length ys ≡ length xs → BoundsWithin l q xs r ys → r .number ≡ 0 → Given q ys × InOrder (problem l q)
+ready l q xs ys r n b z =
     let short = ltb (length ys) (q .jobs) in
     let all : callChecks short l q (boundCheck (q .bound) accepted) ≡ accepted =
     ap (λ (k : ℕ). callChecks (ltb k (q .jobs)) l q (boundCheck (q .bound) accepted)) n ∙ bound-found l q xs r ys b z .checks in
     let e : callChecks short l q accepted ≡ accepted = goes-on (callChecks short l q) (call-checks short l q) (boundCheck (q .bound) accepted) all accepted in
-    ((call-passed short l q e .count, at-most (length ys) (q .jobs) (long-enough short l q e)), j .order (numbered 0 0 (j .says) ∙ ap (λ (v : Verdict). v .number) e))
+    ((call-passed short l q e .count, at-most (length ys) (q .jobs) (long-enough short l q e)), call-order short l q e)
 
 said-no : (a : Answer) (text : List ℕ) → (a .number ≡ 0 → ⊥) → refusedLine (a .number) (a .place) ≡ said a text
 said-no a text n = simp (ne-eqb _ _ n)

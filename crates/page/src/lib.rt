@@ -184,7 +184,6 @@ fn put_table(l: Loaded, q: Ask, out: &mut [u8]) -> usize
     if a.number != 0 {
         return put_refused(a.number, a.place, out);
     }
-    let order = tables::call_fault(l, q, starts.len() < q.jobs);
     put_plan(l, q, starts, a.value, out)
 }
 

@@ -16,13 +16,13 @@ use Rattle.states.specs.State.{Search, More, Keeps, Dead, Must, Out, Sure, Who,
 use Rattle.states.proofs.Keep.{keeps-trans, left-back}
 use Rattle.orders.specs.declared.State.{State}
 use Rattle.orders.specs.View.{view, PutInside, PutBarred, AllTakes}
-use Rattle.flaws.specs.Flaw.{who, NoMay, Lack, Scene, Cols, Lists, Known}
+use Rattle.flaws.specs.Flaw.{who, NoMay, Lack, Cols, Lists, Known}
 use Rattle.orders.proofs.Changes.{keeps-inside, keeps-barred, bit-cases}
 use Rattle.flaws.proofs.Flaws.{who-job, other-who, looked}
 use Rattle.prune.specs.Prune.{Spares, StartOnly, StartAll, Single, MinIf, LeastOf, Told, Rule, WantsAll}
 use Rattle.flaws.specs.declared.Ask.{Ask}
 use Rattle.facts.proofs.Bools.{below-suc}
-use Rattle.facts.proofs.Sets.{some-fact, has-zero}
+use Rattle.facts.proofs.Sets.{has-zero}
 use Rattle.states.proofs.Rules as rules
 
 pub killed : (P : Search) {s t r : State} → PutInside s 0 t → PutBarred t 0 r → Dead P (view s) → Keeps P (view s) (view r)
@@ -107,10 +107,6 @@ module _ (P : Search) (s : State) (p b K w : ℕ) (t : Told P s p b K w) where
       only start m = refl
       only nobody m = absurd m
       only (by c) m = absurd (has-zero c (subst (λ (y : ℕ). T (has y c)) e (t .cands .at c (omega (arith, m .below, t .count)) m)))
-
-module _ (P : Search) (s : State) (p b A G R : ℕ) (c : Scene P s p b A G R) where
-  pub danger-bars : (G ≡ 0 → ⊥) → MayStart P (view s) p (who b) → ⊥
-  danger-bars n m = let i = some-fact G n in let g = c .dangers .of (i .0) (i .1) .1 in m .clear (i .0) (g .killer) (g .late)
 
 pub there-job : (s : State) (b : ℕ) {r : Bool} → b < 24 → r ≡ has (s .inside) b → r ≡ there (view s) (who b)
 there-job s b {r} l e = subst (λ (v : Who). r ≡ there (view s) v) (sym (who-job b l)) e

@@ -8,7 +8,7 @@ ghost use Rattle.facts.specs.Facts.{has};
 ghost use Rattle.rules.specs.Table.{InOrder, deletes};
 ghost use Rattle.states.specs.State.{Search, Keeps, Dead, there, Wants, MayJob, MayStart, Low};
 ghost use Rattle.orders.specs.View.{view, AllTakes, Prunes};
-ghost use Rattle.flaws.specs.Flaw.{who, Cols, Deletes, Scene, NoMay, Lists, Known, Sizes3, Sizes, Lent};
+ghost use Rattle.flaws.specs.Flaw.{who, Cols, Deletes, Sight, NoMay, Lists, Known, Sizes3, Sizes, Lent};
 ghost use Rattle.prune.specs.Prune.{Spares, SparesAll, StartAll, Single, MinIf, LeastOf, Told, Rule, WantsAll};
 use orders::State;
 
@@ -34,7 +34,7 @@ fn none_left(s: State, b: usize) -> State
 // The candidates as a word.
 fn cands(s: State, b: usize, adders: u32, dang: u32) -> u32
     requires { ⌜ b ≤ 24 ⌝ }
-    ensures { λ r. ⌜ ((P : Search) (p R : ℕ) → Scene P s p b adders dang R → Cols (MayJob P (view s) p (who b)) r 24) ⌝ }
+    ensures { λ r. ⌜ ((P : Search) (p : ℕ) → Sight P s p b adders dang → Cols (MayJob P (view s) p (who b)) r 24) ⌝ }
 {
     let mut w: u32 = 0;
     for a in 0..24 {
@@ -267,7 +267,6 @@ fn condition_rule(
     ensures { λ r. ⌜ ((P : Search) → Rule P b p opening adders kills → AllTakes (now (steps .entry)) P → Keeps P (view s) (view r)) ⌝ }
 {
     let dang = flaws::dangers(s, b, kills);
-    let rest = flaws::unsettled(s, b, kills);
     let w = cands(s, b, adders, dang);
     if dang != 0 {
         return without_start(s, b, w, kills, steps);

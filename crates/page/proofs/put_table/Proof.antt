@@ -20,17 +20,19 @@ same-length c = search needs
 returns : tie.Need-returns
 returns c = let a = c .before .before .before .before .before .before .before .before .before .before .before .before .before .args in record { text = _; is = shows-no (a .l) (a .q) _ _ (c .before .before .before .before .before .before .before .before .before .least-bound .ensures) (c .before .before .before .before .before .if1 .taken); lays = lays-fit (c .before .before .put-refused .ensures) (omega (arith, c .before .before .put-refused .ensures .fits)) }
 
-call-fault-requires : tie.Need-call-fault-requires
-call-fault-requires c κs = search needs
-
 put-plan-requires : tie.Need-put-plan-requires
-put-plan-requires c κs = let a = c .before .before .before .before .before .before .before .before .before .before .before .before .args in let h = ready (a .l) (a .q) _ _ _ (c .before .before .before .before .before .before .before .starts .given) (c .before .before .before .before .before .before .before .before .least-bound .ensures) (c .before .before .before .before .if1 .left) (c .before .before .call-fault .ensures) in (h .0, h .1, search needs)
+put-plan-requires c κs =
+    let a = c .before .before .before .before .before .before .before .before .before .before .args in
+    let h = ready (a .l) (a .q) _ _ _ (c .before .before .before .before .before .starts .given) (c .before .before .before .before .before .before .least-bound .ensures) (c .before .before .if1 .left) in
+    (h .0, h .1, search needs)
 
 same-length-2 : tie.Need-same-length-2
 same-length-2 c = search needs
 
 returns-2 : tie.Need-returns-2
-returns-2 c = let a = c .before .before .before .before .before .before .before .before .before .before .before .before .before .before .before .before .args in record { text = _; is = shows-plan (a .l) (a .q) _ _ (c .before .before .before .before .before .before .before .before .before .before .before .before .least-bound .ensures) (c .before .before .before .before .before .before .before .before .if1 .left); lays = c .before .before .before .put-plan .ensures }
+returns-2 c =
+    let a = c .before .before .before .before .before .before .before .before .before .before .before .before .before .before .args in
+    record { text = _; is = shows-plan (a .l) (a .q) _ _ (c .before .before .before .before .before .before .before .before .before .before .least-bound .ensures) (c .before .before .before .before .before .before .if1 .left); lays = c .before .before .before .put-plan .ensures }
 
 pub put-table-spec : {M : Type 1} → statement M
 put-table-spec =
@@ -41,7 +43,6 @@ put-table-spec =
     put-refused-requires
     same-length
     returns
-    call-fault-requires
     put-plan-requires
     same-length-2
     returns-2)
