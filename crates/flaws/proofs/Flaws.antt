@@ -2,22 +2,22 @@
 -- Assumes nothing.
 use mathlib.Core.Path.{_≡_, refl, sym, subst, _∙_}
 use mathlib.Core.Logic.{inl, inr, ⊎-elim, _≢_}
-use mathlib.Core.Bool.{Bool, true, false, not, _&&_}
+use mathlib.Core.Bool.{Bool, true, false, not, _&&_, true≢false}
 use mathlib.Core.List.{List}
 use Prim.Native.Nat.{ℕ, _+_, _<_, _^_}
 use native.Mathlib.Omega.{arith}
 use lib.Bits.{bitOr, bitAnd}
-use lib.Dec.{T, eqb, ltb, ltb→lt}
+use lib.Dec.{T, eqb, ltb, ltb→lt, T-not}
 use lib.ListN.{getD}
 use borrow.Author.Tests.{lt-ltb, not-true, not-false, eqb-true, eqb-false}
 use Rattle.facts.specs.Facts.{has, Decides}
 use Rattle.rules.specs.Table.{InOrder}
 use Rattle.rules.specs.Supports.{Support, start, nobody, by}
-use Rattle.facts.proofs.Bools.{below-suc, and-of, and-l, and-r, T?, says-no, says-test}
+use Rattle.facts.proofs.Bools.{below-suc, and-of, and-l, and-r, T?, says-no, says-test, certain}
 use Rattle.states.specs.State.{Search, Dead, Who, task, goal, Other, late, done, useless, serves, Killer, MayJob, SafeJob, OpenPair, there, Wants, May, MayStart}
 use Rattle.orders.specs.declared.State.{State}
 use Rattle.orders.specs.View.{view, FreeJob, FreePair, orBit}
-use Rattle.flaws.specs.Flaw.{who, whoOf, Cols, Deletes, Danger, Unsettled, Lack, Picks, Alike, Sooner, Urgent, Sight, Scene, SomeSafe, NoneBelow, NoMay, Looked, Lists, Known, AllSafe, OneLost, SafeFor}
+use Rattle.flaws.specs.Flaw.{who, whoOf, Cols, Deletes, Danger, Unsettled, Lack, Picks, Alike, Sooner, Urgent, Sight, Scene, SomeSafe, NoneBelow, NoMay, Looked, Lists, Known, AllSafe, OneLost, SafeFor, Ordered, parted}
 use Rattle.flaws.specs.declared.Ask.{Ask}
 use Rattle.flaws.specs.declared.Choice.{Choice}
 use Rattle.orders.proofs.Changes.{bit-keep, bit-new, bit-cases}
@@ -222,6 +222,11 @@ module _ (P : Search) (s : State) (p b a A G R : ℕ) (c : Scene P s p b A G R) 
   pub sup-first : {d : ℕ} → a < 24 → Lack R (getD (s .sure) a 0) d → d < 24 → (T (has (getD (s .never) a 0) d) → ⊥) → FreePair s d a
   sup-first {d} la l h n = record { first = h; second = la; free = record { unsure = l .lacks h; possible = n } }
 
+  pub sup-part : {d : ℕ} (never : Bool) → never ≡ has (getD (s .never) a 0) d → a < 24 → Lack R (getD (s .sure) a 0) d → d < 24
+      → Picks s (SafeJob P (view s) p (who b) a) ⊥ (parted never a b d)
+  sup-part true e la l h = pick-pair s (sup-after l h (subst T e tt))
+  sup-part false e la l h = pick-pair s (sup-first la l h (λ x. subst T (sym e) x))
+
 module _ (P : Search) (s : State) (p b a A G R : ℕ) where
   pub better-skip : {best : Choice} → (MayJob P (view s) p (who b) a → ⊥) → Picks s (SomeSafe P s p b) (NoneBelow P s p b a) best → Picks s (SomeSafe P s p b) (NoneBelow P s p b (a + 1)) best
   better-skip n q = pick-map s (λ x. x) (λ f i l m. ⊎-elim (λ h. f i h m) (λ h. n (rw h at m)) (below-suc i a (omega arith))) q
@@ -273,6 +278,30 @@ looked l p h = record { count = l .count; opening = l .opening; adders = l .adde
 
 pub in-word : (w p : ℕ) → w < 2 ^ 64 → T (has w p) → p < 64
 in-word w p l h = has-lt 64 w p l h
+
+-- ── two jobs that interfere ──
+
+-- they are ordered, or both are inside and it is open which goes first
+pub record Loose (s : State) (a b : ℕ) : Type 0 where
+  pub first : T (has (s .inside) a)
+  pub second : T (has (s .inside) b)
+  pub unsure : T (view s .sure a b) → ⊥
+  pub turned : T (view s .sure b a) → ⊥
+
+module _ (s : State) (a b : ℕ) where
+  pub loose : (Ordered s a b → ⊥) → Loose s a b
+  loose n = record {
+    first = certain (has (s .inside) a) (λ x. n (λ i k. absurd (T-not (has (s .inside) a) x i)));
+    second = certain (has (s .inside) b) (λ x. n (λ i k. absurd (T-not (has (s .inside) b) x k)));
+    unsure = λ x. n (λ i k. inl x);
+    turned = λ x. n (λ i k. inr x);
+  }
+
+  pub ordered-yes : Ordered s a b → Decides true (Ordered s a b)
+  ordered-yes o = record { yea = λ e. o; nay = λ e. absurd (true≢false e) }
+
+  pub ordered-is : {r : Bool} → T (has (s .inside) a) → T (has (s .inside) b) → (T (view s .sure a b) → ⊥) → r ≡ view s .sure b a → Decides r (Ordered s a b)
+  ordered-is i k n e = says-test e (λ x j l. inr x) (λ o. ⊎-elim (λ x. absurd (n x)) (λ x. x) (o i k))
 
 -- ── the consumers ──
 

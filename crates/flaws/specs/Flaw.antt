@@ -114,6 +114,11 @@ SomeSafe P s p b = (x : Support) × Safe P (view s) p (who b) x
 abbrev pub NoneBelow : Search → State → ℕ → ℕ → ℕ → Type 0
 NoneBelow P s p b n = (a : ℕ) → a < n → MayJob P (view s) p (who b) a → ⊥
 
+-- which pair is to be ordered where d kills the fact of the candidate a for b: b and d where d surely is not over before a, else d and a
+abbrev pub parted : (never : Bool) → (a b d : ℕ) → Choice
+parted true a b d = record { kind = 3; x = b; y = d; rank = 0 }
+parted false a b d = record { kind = 3; x = d; y = a; rank = 0 }
+
 -- r is the first number below 24 of w that is not in v, or 24
 pub record Lack (w v r : ℕ) : Type 0 where
   pub within : r ≤ 24

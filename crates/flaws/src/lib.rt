@@ -2,13 +2,13 @@
 ghost use mathlib.Core.Path.{_≡_};
 ghost use Prim.Native.Nat.{ℕ, _+_, _≤_, _<_};
 ghost use lib.Dec.{T};
-ghost use lib.ListN.{length};
+ghost use lib.ListN.{length, getD};
 ghost use Rattle.facts.specs.Facts.{has, Decides};
 ghost use Rattle.rules.specs.Table.{InOrder};
 ghost use Rattle.rules.specs.Plans.{interfere};
 ghost use Rattle.states.specs.State.{Search, late, done, useless, serves, Killer, MayStart, MayJob, SafeJob, Dead};
 ghost use Rattle.orders.specs.View.{view};
-ghost use Rattle.flaws.specs.Flaw.{who, Cols, Deletes, Danger, Unsettled, Picks, Lack, Sight, Scene, SomeSafe, NoneBelow, NoMay, Looked, AllSafe, OneLost, SafeFor, Lists, Ordered, Known, Sizes, Sizes3, Hits, RowOrdered, AllOrdered, AllHits, SafeBelowW, NoFlaw, Lent, Alike, Sooner, Urgent};
+ghost use Rattle.flaws.specs.Flaw.{who, Cols, Deletes, Danger, Unsettled, Picks, Lack, Sight, Scene, SomeSafe, NoneBelow, parted, NoMay, Looked, AllSafe, OneLost, SafeFor, Lists, Ordered, Known, Sizes, Sizes3, Hits, RowOrdered, AllOrdered, AllHits, SafeBelowW, NoFlaw, Lent, Alike, Sooner, Urgent};
 use orders::State;
 
 pub struct Choice {
@@ -179,6 +179,28 @@ fn in_not(w: u32, v: u32, d: usize) -> bool
     orders::has(w, d)
 }
 
+// Job d kills the fact of the candidate a: it goes behind the consumer b if it surely is not over before a, else before a.
+fn part(s: State, b: usize, a: usize, d: usize) -> Choice
+    requires { ⌜ (a < 24) × (d < 24) ⌝ }
+    ensures { λ r. ⌜ r ≡ parted (has (getD (s .never) a 0) d) a b d ⌝ }
+{
+    let n = s.never[a];
+    if orders::has(n, d) {
+        return Choice {
+            kind: 3,
+            x: b,
+            y: d,
+            rank: 0,
+        };
+    }
+    Choice {
+        kind: 3,
+        x: d,
+        y: a,
+        rank: 0,
+    }
+}
+
 // What the candidate a wants for the consumer b.
 fn support(s: State, b: usize, a: usize, rest: u32) -> Choice
     requires { ⌜ (b ≤ 24) × (a < 24) ⌝ }
@@ -210,21 +232,7 @@ fn support(s: State, b: usize, a: usize, rest: u32) -> Choice
             rank: 0,
         };
     }
-    let n = s.never[a];
-    if orders::has(n, d) {
-        return Choice {
-            kind: 3,
-            x: b,
-            y: d,
-            rank: 0,
-        };
-    }
-    Choice {
-        kind: 3,
-        x: d,
-        y: a,
-        rank: 0,
-    }
+    part(s, b, a, d)
 }
 
 // Where job a of this length finishes at the earliest.
@@ -487,38 +495,31 @@ fn conditions(
     best
 }
 
+// Jobs a and b are not both inside, or one is surely over before the other.
+fn ordered(s: State, a: usize, b: usize) -> bool
+    requires { ⌜ (a < 24) × (b < 24) ⌝ }
+    ensures { λ r. ⌜ Decides r (Ordered s a b) ⌝ }
+{
+    if !orders::has(s.inside, a) {
+        return true;
+    }
+    if !orders::has(s.inside, b) {
+        return true;
+    }
+    let u = s.sure[b];
+    if orders::has(u, a) {
+        return true;
+    }
+    let v = s.sure[a];
+    orders::has(v, b)
+}
+
 // Two jobs that interfere.
 fn mutex_at(s: State, a: usize, b: usize) -> Choice
     requires { ⌜ (a < 24) × (b < 24) ⌝ }
     ensures { λ r. ⌜ ((P : Search) → InOrder (P .problem) → T (interfere (P .problem) a b) → Picks s (Ordered s a b) (Dead P (view s)) r) ⌝ }
 {
-    if !orders::has(s.inside, a) {
-        return Choice {
-            kind: 0,
-            x: 0,
-            y: 0,
-            rank: 0,
-        };
-    }
-    if !orders::has(s.inside, b) {
-        return Choice {
-            kind: 0,
-            x: 0,
-            y: 0,
-            rank: 0,
-        };
-    }
-    let u = s.sure[b];
-    if orders::has(u, a) {
-        return Choice {
-            kind: 0,
-            x: 0,
-            y: 0,
-            rank: 0,
-        };
-    }
-    let v = s.sure[a];
-    if orders::has(v, b) {
+    if ordered(s, a, b) {
         return Choice {
             kind: 0,
             x: 0,

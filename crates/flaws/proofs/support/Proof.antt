@@ -2,10 +2,10 @@ use borrow.Author.Needs.{needs}
 use native.Mathlib.Omega.{arith}
 use Rattle.orders.proofs.Tests.{passed, failed}
 use Rattle.facts.specs.Facts.{has}
-use Rattle.facts.proofs.Bools.{test-yes, test-no}
 use Rattle.flaws.proofs.Flaws as fl
 use Rattle.flaws.proofs.support.Statement.{statement}
 use Rattle.flaws.proofs.support.Tie as tie
+use mathlib.Core.Path.{refl}
 
 serves-for-requires : tie.Need-serves-for-requires
 serves-for-requires c κs = search needs
@@ -31,20 +31,14 @@ lack-requires c κs = search needs
 returns-3 : tie.Need-returns-3
 returns-3 c P p A G k m = fl.pick-fine (c .before .before .before .before .before .before .before .args .t1) (fl.sup-safe P (c .before .before .before .before .before .before .before .args .t1) p (c .before .before .before .before .before .before .before .args .b) (c .before .before .before .before .before .before .before .args .a) A G (c .before .before .before .before .before .before .before .args .rest) k m (passed (c .before .before .before .before .has .ensures) (c .before .before .before .if2 .left)) (passed (c .before .before .before .before .before .before .serves-for .ensures) (c .before .before .before .before .before .if1 .left)) (c .before .lack .ensures) (c .if3 .taken))
 
-mul-n : tie.Need-mul-n
-mul-n c = search needs
-
-element-copy-out-n : tie.Need-element-copy-out-n
-element-copy-out-n c = search needs
-
-has-requires-2 : tie.Need-has-requires-2
-has-requires-2 c κs = search needs
+part-requires : tie.Need-part-requires
+part-requires c κs = let h = c .before .lack .ensures in (omega arith, omega (arith, h .within))
 
 returns-4 : tie.Need-returns-4
-returns-4 c P p A G k m = let h = c .before .before .before .before .lack .ensures in fl.pick-pair (c .before .before .before .before .before .before .before .before .before .before .args .t1) (fl.sup-after P (c .before .before .before .before .before .before .before .before .before .before .args .t1) p (c .before .before .before .before .before .before .before .before .before .before .args .b) (c .before .before .before .before .before .before .before .before .before .before .args .a) A G (c .before .before .before .before .before .before .before .before .before .before .args .rest) k m h (omega arith) (test-yes (c .before .has2 .ensures) (c .if4 .taken)))
-
-returns-5 : tie.Need-returns-5
-returns-5 c P p A G k m = let h = c .before .before .before .before .lack .ensures in fl.pick-pair (c .before .before .before .before .before .before .before .before .before .before .args .t1) (fl.sup-first P (c .before .before .before .before .before .before .before .before .before .before .args .t1) p (c .before .before .before .before .before .before .before .before .before .before .args .b) (c .before .before .before .before .before .before .before .before .before .before .args .a) A G (c .before .before .before .before .before .before .before .before .before .before .args .rest) k m (omega arith) h (omega arith) (test-no (c .before .has2 .ensures) (c .if4 .left)))
+returns-4 c P p A G k m =
+    let a = c .before .before .before .before .before .before .before .before .args in
+    let h = c .before .before .lack .ensures in
+    rw (c .part .ensures) (fl.sup-part P (a .t1) p (a .b) (a .a) A G (a .rest) k m _ refl (omega arith) h (omega (arith, h .within)))
 
 pub support-spec : {M : Type 1} → statement M
 support-spec =
@@ -58,8 +52,5 @@ support-spec =
     element-copy-out-v
     lack-requires
     returns-3
-    mul-n
-    element-copy-out-n
-    has-requires-2
-    returns-4
-    returns-5)
+    part-requires
+    returns-4)
