@@ -11,7 +11,6 @@ use lib.Dec.{T, eqb, ltb, ltb→lt, T-not}
 use lib.ListN.{getD}
 use borrow.Author.Tests.{lt-ltb, not-true, not-false, eqb-true, eqb-false}
 use Rattle.facts.specs.Facts.{has, Decides}
-use Rattle.rules.specs.Table.{InOrder}
 use Rattle.rules.specs.Supports.{Support, start, nobody, by}
 use Rattle.facts.proofs.Bools.{below-suc, and-of, and-l, and-r, T?, says-no, says-test, certain}
 use Rattle.states.specs.State.{Search, Dead, Who, task, goal, Other, late, done, useless, serves, Killer, MayJob, SafeJob, OpenPair, there, Wants, May, MayStart}
@@ -21,7 +20,7 @@ use Rattle.flaws.specs.Flaw.{who, whoOf, Cols, Deletes, Danger, Unsettle
 use Rattle.flaws.specs.declared.Ask.{Ask}
 use Rattle.flaws.specs.declared.Choice.{Choice}
 use Rattle.orders.proofs.Changes.{bit-keep, bit-new, bit-cases}
-use Rattle.facts.proofs.Sets.{has-zero, has-and, some-fact, has-lt}
+use Rattle.facts.proofs.Sets.{has-zero, has-and, some-fact}
 use Rattle.states.proofs.Rules as rules
 
 pub who-job : (b : ℕ) → b < 24 → who b ≡ task b
@@ -276,9 +275,6 @@ scene P s p b O A K G R l g r = record { seen = sight P s p b O A K G l g; rest 
 pub looked : {P : Search} {O : ℕ} {A K : List ℕ} → Lists P O A K → (p : ℕ) → p < 64 → Looked P p O (getD A p 0) (getD K p 0)
 looked l p h = record { count = l .count; opening = l .opening; adders = l .adders p h; killers = l .killers p h }
 
-pub in-word : (w p : ℕ) → w < 2 ^ 64 → T (has w p) → p < 64
-in-word w p l h = has-lt 64 w p l h
-
 -- ── two jobs that interfere ──
 
 -- they are ordered, or both are inside and it is open which goes first
@@ -308,20 +304,17 @@ module _ (s : State) (a b : ℕ) where
 pub lists : {C A K : List ℕ} {ask : Ask} {P : Search} → Known C A K ask P → Lists P (ask .opening) A K
 lists k = record { count = k .count; opening = k .opening; adders = k .adders; killers = k .killers }
 
-lost-at : (P : Search) → InOrder (P .problem) → (s : State) (w : Who) (p : ℕ) → T (there (view s) w) → Wants P w p → ((x : Support) → May P (view s) p w x → ⊥) → Dead P (view s)
-lost-at P wf s w p i n h = rules.none-dead P wf (view s) w p i n h
-
 module _ {C A K : List ℕ} {ask : Ask} {P : Search} (k : Known C A K ask P) (s : State) where
   pub end-safe : {c : Choice} (b : ℕ) → b ≡ 24 → Picks s (AllSafe P s b (ask .goals)) (OneLost P s b (ask .goals)) c → Picks s (SafeFor P s b) (Dead P (view s)) c
   end-safe {c} b e q = subst (λ (x : ℕ). Picks s (SafeFor P s x) (Dead P (view s)) c) (sym e) (pick-map s
       (λ f t p w. f p (subst (λ (x : ℕ). T (has x p)) (k .goals) w))
-      (λ l. lost-at P (k .wf) s goal (l .0) tt (subst (λ (x : ℕ). T (has x (l .0))) (sym (k .goals)) (l .1)) (l .2))
+      (λ l. rules.none-dead P (k .wf) (view s) goal (l .0) tt (subst (λ (x : ℕ). T (has x (l .0))) (sym (k .goals)) (l .1)) (l .2))
       (rw e at q))
 
   pub job-safe : {c : Choice} (b : ℕ) → b < 24 → T (has (s .inside) b) → Picks s (AllSafe P s b (getD C b 0)) (OneLost P s b (getD C b 0)) c → Picks s (SafeFor P s b) (Dead P (view s)) c
   job-safe {c} b l i q = pick-map s
       (λ f t p w. f p (subst (λ (x : ℕ). T (has x p)) (k .conds b l) (subst (λ (v : Who). Wants P v p) (who-job b l) w)))
-      (λ z. lost-at P (k .wf) s (task b) (z .0) i (subst (λ (x : ℕ). T (has x (z .0))) (sym (k .conds b l)) (z .1)) (subst (λ (v : Who). (x : Support) → May P (view s) (z .0) v x → ⊥) (who-job b l) (z .2)))
+      (λ z. rules.none-dead P (k .wf) (view s) (task b) (z .0) i (subst (λ (x : ℕ). T (has x (z .0))) (sym (k .conds b l)) (z .1)) (subst (λ (v : Who). (x : Support) → May P (view s) (z .0) v x → ⊥) (who-job b l) (z .2)))
       q
 
   pub job-out : (b : ℕ) → b < 24 → (T (has (s .inside) b) → ⊥) → SafeFor P s b

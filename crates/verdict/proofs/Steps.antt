@@ -14,7 +14,7 @@ use mathlib.Core.List.{List}
 use Rattle.facts.specs.Facts.{has, Word}
 use Rattle.facts.specs.Least.{least, any}
 use Rattle.facts.proofs.Bools.{and-l, and-r, or-at, or-first}
-use Rattle.facts.proofs.Least.{least-is, least-same}
+use Rattle.facts.proofs.Least.{least-same}
 use Rattle.rules.specs.Table.{Problem}
 use Rattle.rules.specs.Plans.{Plan, starts, In, inPlan, finish, interfere, ends, afterIf, finishes, holds}
 use Rattle.rules.specs.Verdicts.{overlap, unready}
@@ -76,13 +76,6 @@ unfolding finishes
 finishes-more P s p t i b h k m = h ∙ ap₂ (λ (now before : Bool). afterIf now (has (P .additions i) p) (has (P .deletions i) p) before) k m ∙ rw add-one
 
 -- ── tests ──
-
--- a search that stops at i, or at the end
-pub found : (f : ℕ → Bool) (n i : ℕ) → i < n → T (f i) → ((k : ℕ) → k < i → T (f k) → ⊥) → i ≡ least f n
-found f n i l x q = least-is f n i (record { within = omega arith; hit = λ h. x; first = q })
-
-pub not-found : (f : ℕ → Bool) (n i : ℕ) → n ≤ i → ((k : ℕ) → k < i → T (f k) → ⊥) → n ≡ least f n
-not-found f n i l q = least-is f n n (record { within = omega arith; hit = λ h. absurd (omega arith); first = λ k h. q k (omega arith) })
 
 -- the tests of an overlap, job by job
 pub regroup : (a b x y z : Bool) → ((a && x) && (b && y)) && z ≡ (a && (b && (x && (y && z))))

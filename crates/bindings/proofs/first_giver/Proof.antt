@@ -6,7 +6,7 @@ use lib.Dec.{T}
 use lib.ListN.{getD}
 use Rattle.facts.proofs.Bools.{test-yes, test-no}
 use Rattle.facts.specs.Facts.{has}
-use Rattle.verdict.proofs.Steps.{found, not-found}
+use Rattle.facts.proofs.Least.{found, not-found}
 use Rattle.bindings.proofs.first_giver.Statement.{statement}
 use Rattle.bindings.proofs.first_giver.Tie as tie
 

@@ -3,6 +3,7 @@ use native.Mathlib.Omega.{arith}
 use Rattle.flaws.proofs.Flaws as fl
 use Prim.Native.Nat.{_-_, _<_, _≤_}
 use borrow.Author.Count.{below-more}
+use Rattle.facts.proofs.Sets.{has-lt}
 use Rattle.states.specs.State.{Search}
 use Rattle.flaws.specs.Flaw.{Picks, Lists, SafeBelow, OneLost}
 use Rattle.flaws.proofs.conditions.Statement.{statement}
@@ -45,7 +46,7 @@ loop-again : tie.Need-loop-again Inv-loop μ-loop
 loop-again c = (omega arith, λ P l. fl.pick-map (c .before .before .before .before .before .before .before .before .before .args .s) (λ x. below-more _ _ (x .0) (x .1)) (λ n. n) (fl.pick-urgent (c .before .before .before .before .before .before .before .before .before .args .s) (c .urgent .ensures) (c .before .before .before .before .before .loop .inv .1 P l) (c .before .condition-at .ensures P (fl.looked l (c .before .before .before .before .before .loop .p) (omega arith)))))
 
 returns : tie.Need-returns Inv-loop μ-loop
-returns c = λ P l. fl.pick-map (c .before .before .before .before .before .args .s) (λ f p h. (let k : p < 64 = fl.in-word (c .before .before .before .before .before .args .word) p (search needs) h in f p (omega arith) h)) (λ n. n) (c .before .loop .inv .1 P l)
+returns c = λ P l. fl.pick-map (c .before .before .before .before .before .args .s) (λ f p h. (let k : p < 64 = has-lt 64 (c .before .before .before .before .before .args .word) p (search needs) h in f p (omega arith) h)) (λ n. n) (c .before .loop .inv .1 P l)
 
 pub conditions-spec : {M : Type 1} → statement M
 conditions-spec =

@@ -9,7 +9,7 @@ use denote.Ref.{now}
 use borrow.Author.Count.{below-more}
 use borrow.Author.Needs.{needs}
 use Rattle.facts.proofs.Bools.{test-yes, test-no}
-use Rattle.facts.proofs.Least.{least-is}
+use Rattle.facts.proofs.Least.{found, not-found}
 use Rattle.readings.specs.Marks.{markAt, bad}
 use Rattle.readings.proofs.first_bad.Statement.{statement}
 use Rattle.readings.proofs.first_bad.Tie as tie
@@ -36,7 +36,7 @@ test-is c =
     c .bad .ensures ∙ rw (toZ-ofZ w16 (mark .result .level) (record { sfits = c .before .struct-told .given .1 .0 .1 }), mark .ensures)
 
 returns : tie.Need-returns Inv-loop μ-loop
-returns c = least-is _ _ _ (record { within = omega arith; hit = λ l. test-yes (test-is (c .before)) (c .if1 .taken); first = c .before .before .before .before .before .loop .inv .1 })
+returns c = found _ _ _ (omega arith) (test-yes (test-is (c .before)) (c .if1 .taken)) (c .before .before .before .before .before .loop .inv .1)
 
 add-i : tie.Need-add-i Inv-loop μ-loop
 add-i c = search needs
@@ -48,7 +48,7 @@ loop-again : tie.Need-loop-again Inv-loop μ-loop
 loop-again c = (search needs, below-more _ _ (c .before .before .before .before .before .loop .inv .1) (test-no (test-is (c .before)) (c .if1 .left)))
 
 returns-2 : tie.Need-returns-2 Inv-loop μ-loop
-returns-2 c = least-is _ _ _ (record { within = search needs; hit = λ l. absurd (omega arith); first = λ i l. c .before .loop .inv .1 i (omega arith) })
+returns-2 c = not-found _ _ _ (omega arith) (c .before .loop .inv .1)
 
 pub first-bad-spec : {M : Type 1} → statement M
 first-bad-spec = tie.close (tie.spec Inv-loop μ-loop loop-holds mark-at-requires bad-requires returns add-i loop-less loop-again returns-2)

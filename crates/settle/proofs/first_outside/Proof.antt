@@ -6,7 +6,7 @@ use lib.Dec.{T}
 use borrow.Author.Count.{below-more}
 use Rattle.facts.specs.Facts.{has}
 use Rattle.facts.proofs.Bools.{test-yes, test-no}
-use Rattle.facts.proofs.Least.{least-is}
+use Rattle.facts.proofs.Least.{found, not-found}
 use Rattle.times.specs.Times.{first, second}
 use Rattle.settle.proofs.first_outside.Statement.{statement}
 use Rattle.settle.proofs.first_outside.Tie as tie
@@ -36,7 +36,7 @@ pair-outside-requires : tie.Need-pair-outside-requires Inv-loop μ-loop
 pair-outside-requires c κs = search needs
 
 returns : tie.Need-returns Inv-loop μ-loop
-returns c = least-is _ _ _ (record { within = omega arith; hit = λ h. test-yes (c .before .pair-outside .ensures) (c .if1 .taken); first = c .before .before .before .before .before .loop .inv .1 })
+returns c = found _ _ _ (omega arith) (test-yes (c .before .pair-outside .ensures) (c .if1 .taken)) (c .before .before .before .before .before .loop .inv .1)
 
 add-k : tie.Need-add-k Inv-loop μ-loop
 add-k c = search needs
@@ -48,7 +48,7 @@ loop-again : tie.Need-loop-again Inv-loop μ-loop
 loop-again c = (omega arith, below-more _ _ (c .before .before .before .before .before .loop .inv .1) (test-no (c .before .pair-outside .ensures) (c .if1 .left)))
 
 returns-2 : tie.Need-returns-2 Inv-loop μ-loop
-returns-2 c = least-is _ _ _ (record { within = omega arith; hit = λ h. absurd (omega arith); first = λ k h. c .before .loop .inv .1 k (omega arith) })
+returns-2 c = not-found _ _ _ (omega arith) (c .before .loop .inv .1)
 
 pub first-outside-spec : {M : Type 1} → statement M
 first-outside-spec =

@@ -5,7 +5,7 @@ use Prim.Native.Nat.{ℕ, _-_, _≤_, _<_}
 use lib.Dec.{T}
 use borrow.Author.Count.{below-more}
 use Rattle.facts.proofs.Bools.{test-yes, test-no}
-use Rattle.facts.proofs.Least.{least-is}
+use Rattle.facts.proofs.Least.{found, not-found}
 use Rattle.rules.specs.Table.{jobStrays}
 use Rattle.tables.proofs.first_stray.Statement.{statement}
 use Rattle.tables.proofs.first_stray.Tie as tie
@@ -23,7 +23,7 @@ job-strays-requires : tie.Need-job-strays-requires Inv-loop μ-loop
 job-strays-requires c κs = search needs
 
 returns : tie.Need-returns Inv-loop μ-loop
-returns c = least-is _ _ _ (record { within = omega arith; hit = λ h. test-yes (c .before .job-strays .ensures) (c .if1 .taken); first = c .before .before .before .loop .inv .1 })
+returns c = found _ _ _ (omega arith) (test-yes (c .before .job-strays .ensures) (c .if1 .taken)) (c .before .before .before .loop .inv .1)
 
 add-i : tie.Need-add-i Inv-loop μ-loop
 add-i c = search needs
@@ -35,7 +35,7 @@ loop-again : tie.Need-loop-again Inv-loop μ-loop
 loop-again c = (omega arith, below-more _ _ (c .before .before .before .loop .inv .1) (test-no (c .before .job-strays .ensures) (c .if1 .left)))
 
 returns-2 : tie.Need-returns-2 Inv-loop μ-loop
-returns-2 c = least-is _ _ _ (record { within = omega arith; hit = λ h. absurd (omega arith); first = λ k h. c .before .loop .inv .1 k (omega arith) })
+returns-2 c = not-found _ _ _ (omega arith) (c .before .loop .inv .1)
 
 pub first-stray-spec : {M : Type 1} → statement M
 first-stray-spec =
