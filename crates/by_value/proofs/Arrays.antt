@@ -1,6 +1,6 @@
 -- A local that holds 255 records by value: its first n elements, which can be lent as a slice, and those behind them; and back.
 -- Assumes `Given`.
-use mathlib.Core.Path.{_≡_, refl, sym, subst, _∙_}
+use mathlib.Core.Path.{_≡_, refl, sym, _∙_}
 use mathlib.Core.List.{List, [], _∷_, _++_}
 use Prim.Native.Nat.{ℕ, _≤_}
 use native.Mathlib.Omega.{arith}

@@ -10,6 +10,7 @@ use Rattle.front.specs.declared.ReadAnswer.{ReadAnswer}
 use Rattle.front.specs.Files.{Reads}
 use Rattle.by_value.specs.declared.JobFile.{JobFile}
 
+-- what was said, and the records
 abbrev pub whole : ReadAnswer → List Action → JobFile
 whole said records = record { said = said; records = records }
 

@@ -6,7 +6,7 @@ use Prim.Native.Nat.{ℕ, _+_, _*_, _<_}
 use lib.ListN.{getD}
 use Rattle.rules.specs.Table.{Problem}
 use Rattle.rules.specs.Plans.{Plan, In}
-use Rattle.rules.specs.Execution.{Event, began, finished, Log, Logged, MayFinish, Complete, AsPlanned}
+use Rattle.rules.specs.Execution.{began, finished, Log, Logged, MayFinish, Complete, AsPlanned}
 
 -- job a, then job b, is one of the first n pairs of the bytes
 abbrev pub Listed : (bytes : List ℕ) (n a b : ℕ) → Type 0

@@ -5,14 +5,14 @@ use mathlib.Core.Bool.{Bool, false, cond}
 use mathlib.Core.List.{List}
 use Prim.Native.Nat.{ℕ}
 use lib.Dec.{eqb, ltb}
-use lib.ListN.{length, getD, replicate}
+use lib.ListN.{length, getD}
 use Rattle.facts.specs.Least.{any}
 use Rattle.rules.specs.Refusals.{Verdict, accepted, refuseIf}
 use Rattle.rules.specs.Table.{boundCheck}
 use Rattle.tables.specs.declared.Loaded.{Loaded}
 use Rattle.tables.specs.declared.Ask.{Ask}
 use Rattle.tables.specs.declared.Answer.{Answer}
-use Rattle.tables.specs.Tables.{answer, changed, callChecks, filled, noJobs}
+use Rattle.tables.specs.Tables.{answer, changed, callChecks, column, noJobs}
 use Rattle.bytes_le.specs.Little.{laid}
 use Rattle.jobfile.specs.declared.Read.{Read}
 use Rattle.jobfile.specs.Format.{saveOf, lengthAfter, trailerAt, trailerIn, askIn, distanceIn, tooFar, recordsIn, spoilt, tableIn}
@@ -80,7 +80,7 @@ saved q = record { jobs = q .jobs; atoms = q .atoms; opening = q .opening; goals
 
 -- the first n entries of a list of 24, 0 behind them
 abbrev pub firsts : List ℕ → ℕ → List ℕ
-firsts xs n = filled (λ i. getD xs i 0) n (replicate 24 0)
+firsts xs n = column (λ i. getD xs i 0) n
 
 -- the records saved, as a caller that lends `room` records gets them
 abbrev pub kept : Loaded → (n room : ℕ) → Loaded

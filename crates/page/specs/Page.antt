@@ -16,7 +16,6 @@ use Rattle.tables.specs.declared.Answer.{Answer}
 use Rattle.tables.specs.Tables.{problem, answer, changed}
 use Rattle.planning.specs.Planning.{BoundsWithin}
 use Rattle.bytes_le.specs.Little.{over}
-use Rattle.jobfile.specs.declared.Read.{Read}
 use Rattle.jobfile.specs.Calls.{reading}
 
 -- ── numbers ──

@@ -9,7 +9,6 @@ use native.Mathlib.Numerals.{add-one}
 use lib.ListN.{length, getD, set, length-set}
 use lib.Seq.{getD-set-same, getD-set-other}
 use Rattle.facts.proofs.Bools.{below-suc}
-use Rattle.tables.specs.declared.Loaded.{Loaded}
 use Rattle.tables.specs.Tables.{filled, tabled, noJobs, withJob}
 
 pub length-filled : (f : ℕ → ℕ) (n : ℕ) (xs : List ℕ) → length (filled f n xs) ≡ length xs
