@@ -1,0 +1,55 @@
+use mathlib.Core.Path.{refl}
+use native.Mathlib.Omega.{arith}
+use borrow.Author.Needs.{needs}
+use Rattle.tables.specs.declared.Loaded.{Loaded}
+use Rattle.tables.specs.declared.Ask.{Ask}
+use Rattle.tables.specs.Tables.{problem}
+use Rattle.reach.specs.Rows.{Of}
+use Rattle.reach.proofs.Rounds.{Kept, missing, kept-first, kept-next, fewer, exact}
+use Rattle.reach.proofs.reachable.Statement.{statement}
+use Rattle.reach.proofs.reachable.Tie as tie
+
+-- a table has its own words
+whole : (l : Loaded) (q : Ask) → Of l (problem l q)
+whole l q = record { conditions = λ i. refl; additions = λ i. refl; deletions = λ i. refl }
+
+abbrev Inv-loop : tie.InvT-loop
+Inv-loop l q s₀ s = Kept (problem l q) (s .rows)
+
+abbrev μ-loop : tie.MeasureT-loop
+μ-loop l q s₀ s = missing (s .rows)
+
+opened-requires : tie.Need-opened-requires Inv-loop μ-loop
+opened-requires c κs = search needs
+
+loop-holds : tie.Need-loop-holds Inv-loop μ-loop
+loop-holds c = kept-first (problem (c .before .args .l) (c .before .args .q)) (c .before .pre .1) _ (c .opened .ensures)
+
+round-requires : tie.Need-round-requires Inv-loop μ-loop
+round-requires c κs = search needs
+
+within-requires : tie.Need-within-requires Inv-loop μ-loop
+within-requires c κs = search needs
+
+returns : tie.Need-returns Inv-loop μ-loop
+returns c = exact (problem (c .before .before .before .before .before .args .l) (c .before .before .before .before .before .args .q)) (c .before .before .before .before .before .pre .1) _ _ (c .before .before .before .loop .inv) (c .before .before .round .ensures _ (whole (c .before .before .before .before .before .args .l) (c .before .before .before .before .before .args .q)) (c .before .before .before .before .before .pre .1) (omega arith)) (c .before .within .ensures .yea (c .if1 .taken))
+
+loop-less : tie.Need-loop-less Inv-loop μ-loop
+loop-less c = fewer (problem (c .before .before .before .before .before .args .l) (c .before .before .before .before .before .args .q)) (c .before .before .before .before .before .pre .1) _ _ _ (c .before .before .before .loop .inv) (c .before .before .round .ensures _ (whole (c .before .before .before .before .before .args .l) (c .before .before .before .before .before .args .q)) (c .before .before .before .before .before .pre .1) (omega arith)) (c .before .within .ensures .nay (c .if1 .left))
+
+loop-again : tie.Need-loop-again Inv-loop μ-loop
+loop-again c = kept-next (problem (c .before .before .before .before .before .args .l) (c .before .before .before .before .before .args .q)) (c .before .before .before .before .before .pre .1) _ _ _ (c .before .before .before .loop .inv) (c .before .before .round .ensures _ (whole (c .before .before .before .before .before .args .l) (c .before .before .before .before .before .args .q)) (c .before .before .before .before .before .pre .1) (omega arith))
+
+pub reachable-spec : {M : Type 1} → statement M
+reachable-spec =
+    tie.close
+    (tie.spec
+    Inv-loop
+    μ-loop
+    opened-requires
+    loop-holds
+    round-requires
+    within-requires
+    returns
+    loop-less
+    loop-again)

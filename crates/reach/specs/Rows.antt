@@ -1,0 +1,109 @@
+-- The pairs as rows of words, and what the steps towards them promise.
+-- Assumes nothing.
+use mathlib.Core.Path.{_≡_}
+use mathlib.Core.Logic.{_⊎_, _↔_}
+use mathlib.Core.Bool.{Bool, _&&_, _||_}
+use mathlib.Core.List.{List}
+use Prim.Native.Nat.{ℕ, _≤_, _<_}
+use lib.Dec.{T}
+use lib.ListN.{length, getD}
+use Rattle.facts.specs.Facts.{has, Word, Covers}
+use Rattle.rules.specs.Table.{Problem, needs, adds, deletes}
+use Rattle.tables.specs.declared.Loaded.{Loaded}
+use Rattle.reach.specs.Reach.{PairSet, Fit, Reachable}
+
+-- bit q of row p
+abbrev pub inRows : List ℕ → PairSet
+inRows rows p q = has (getD rows p 0) q
+
+-- of the first n facts, those in c are reachable with all of c
+abbrev pub FitIn : List ℕ → (c n : ℕ) → Type 0
+FitIn rows c n = (r : ℕ) → r < n → T (has c r) → Covers (getD rows r 0) c
+
+-- q, with the row of q, is reachable, is not in d, and is reachable with all of c
+pub record Seen (row c d q : ℕ) : Type 0 where
+  pub stays : T (has d q) → ⊥
+  pub itself : T (has row q)
+  pub all : Covers row c
+
+-- w has the facts below n that stay beside a job with the conditions c and the deletions d, and no other
+pub record Beside (rows : List ℕ) (c d n w : ℕ) : Type 0 where
+  pub sound : (q : ℕ) → T (has w q) → Seen (getD rows q 0) c d q
+  pub whole : (q : ℕ) → q < n → Seen (getD rows q 0) c d q → T (has w q)
+
+-- row p with what a job adds: p and q are both added, or one is added and the other stands beside
+abbrev pub more : (row a w p q : ℕ) → Bool
+more row a w p q = (has row q || (has a p && (has a q || has w q))) || (has w p && has a q)
+
+-- the rows below n have grown so, the others are as they were
+pub record Grown (old : List ℕ) (a w n : ℕ) (new : List ℕ) : Type 0 where
+  pub size : length new ≡ 64
+  pub grown : (p : ℕ) → p < n → Word (more (getD old p 0) a w p) (getD new p 0)
+  pub rest : (p : ℕ) → n ≤ p → getD new p 0 ≡ getD old p 0
+
+-- the job gives the pair p and q: its conditions are pairwise reachable, and it adds both, or one of them and the other stands beside
+pub record Found (rows : List ℕ) (c a d p q : ℕ) : Type 0 where
+  pub fit : FitIn rows c 64
+  pub how : (T (has a p) × T (has a q)) ⊎ (T (has a p) × Seen (getD rows q 0) c d q) ⊎ (T (has a q) × Seen (getD rows p 0) c d p)
+
+-- the rows, where a job with the conditions c, additions a and deletions d has been looked at
+pub record Looked (rows : List ℕ) (c a d : ℕ) (new : List ℕ) : Type 0 where
+  pub size : length new ≡ 64
+  pub more : (p q : ℕ) → T (inRows rows p q) → T (inRows new p q)
+  pub sound : (p q : ℕ) → T (inRows new p q) → T (inRows rows p q) ⊎ Found rows c a d p q
+  pub whole : (p q : ℕ) → p < 64 → Found rows c a d p q → T (inRows new p q)
+
+-- ── a round over the jobs ──
+
+abbrev pub Sym : List ℕ → Type 0
+Sym rows = (p q : ℕ) → T (inRows rows p q) → T (inRows rows q p)
+
+abbrev pub Sound : Problem → List ℕ → Type 0
+Sound P rows = (p q : ℕ) → T (inRows rows p q) → Reachable P p q
+
+abbrev pub Within : List ℕ → List ℕ → Type 0
+Within new old = (p q : ℕ) → T (inRows new p q) → T (inRows old p q)
+
+-- the table has the problem's words
+pub record Of (l : Loaded) (P : Problem) : Type 0 where
+  pub conditions : (i : ℕ) → P .conditions i ≡ getD (l .conditions) i 0
+  pub additions : (i : ℕ) → P .additions i ≡ getD (l .additions) i 0
+  pub deletions : (i : ℕ) → P .deletions i ≡ getD (l .deletions) i 0
+
+-- the rules hold of job i
+pub record ClosedAt (P : Problem) (S : PairSet) (i : ℕ) : Type 0 where
+  pub both : (p q : ℕ) → Fit P S i → adds P i p → adds P i q → T (S p q)
+  pub beside : (p q : ℕ) → Fit P S i → adds P i p → (deletes P i q → ⊥) → T (S q q) → ((r : ℕ) → needs P i r → T (S r q)) → T (S p q)
+
+-- the jobs below n have been looked at: all that is found is reachable, and where nothing is found the rules hold of them
+pub record Rounds (P : Problem) (n : ℕ) (old new : List ℕ) : Type 0 where
+  pub size : length new ≡ 64
+  pub more : Within old new
+  pub sym : Sym old → Sym new
+  pub sound : Sound P old → Sound P new
+  pub closes : Sym old → Within new old → (i : ℕ) → i < n → ClosedAt P (inRows old) i
+
+-- ── e-deletion ──
+
+-- p can hold, and some fact of w is not reachable with it
+abbrev pub Barred : List ℕ → (w p : ℕ) → Type 0
+Barred rows w p = T (inRows rows p p) × (Covers (getD rows p 0) w → ⊥)
+
+-- p is taken away by a job with these conditions, additions and deletions
+abbrev pub Gone : List ℕ → (c a d p : ℕ) → Type 0
+Gone rows c a d p = T (has d p) ⊎ (FitIn rows c 64 × (Barred rows a p ⊎ (Barred rows c p × (T (has a p) → ⊥))))
+
+-- the word r holds what such a job takes away, and no other fact
+pub record EWord (rows : List ℕ) (c a d r : ℕ) : Type 0 where
+  pub gone : (p : ℕ) → T (has r p) ↔ Gone rows c a d p
+
+-- the table with other deletions
+abbrev pub withWords : Loaded → List ℕ → Loaded
+withWords l x = record { conditions = l .conditions; additions = l .additions; deletions = x; durations = l .durations; lent = l .lent }
+
+-- the jobs below n of the table r delete what those of l take away; else r is l
+pub record EDone (rows : List ℕ) (l : Loaded) (n : ℕ) (r : Loaded) : Type 0 where
+  pub rest : r ≡ withWords l (r .deletions)
+  pub size : length (r .deletions) ≡ 24
+  pub words : (i : ℕ) → i < n → EWord rows (getD (l .conditions) i 0) (getD (l .additions) i 0) (getD (l .deletions) i 0) (getD (r .deletions) i 0)
+  pub past : (i : ℕ) → n ≤ i → getD (r .deletions) i 0 ≡ getD (l .deletions) i 0
