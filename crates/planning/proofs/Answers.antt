@@ -23,10 +23,9 @@ use Rattle.tables.specs.Tables.{problem, answer, callChecks, filled, changed, J
 use Rattle.tables.proofs.Laws.{said, changed-old, numbered}
 use Rattle.tables.proofs.Lent.{filled-same}
 use Rattle.tables.proofs.Calls.{call-checks, call-passed, long-enough}
-use Rattle.entries.specs.Entries.{entry}
-use Rattle.rules.specs.Estimates.{Estimates}
 use Rattle.search.specs.Leaf.{planOf}
-use Rattle.planning.specs.Derived.{Ready}
+use Rattle.entries.specs.Entries.{entry}
+use Rattle.planning.specs.Derived.{InReach}
 use Rattle.planning.specs.Planning.{planningChecks, Plannable, PlansWithin, BoundsWithin}
 
 pub planning-checks : (l : Loaded) (q : Ask) (room : ℕ) → Checks (planningChecks l q room)
@@ -111,13 +110,8 @@ module _ (l : Loaded) (q : Ask) (xs : List ℕ) where
 
     module _ (z : fault .number ≡ 0) where
       -- the checks give what the search asks for
-      pub ready-of : (est : List ℕ) (t : ℕ) → Estimates (problem l q) (entry est) → t ≡ top l q → Ready l q est t
-      ready-of est t k h = record {
-        few = j .order z .few;
-        order = j .order z .order;
-        solves = k;
-        short = omega (arith, h, j .order z .short);
-      }
+      pub in-reach : (t : ℕ) → t ≡ top l q → InReach l q t
+      in-reach t h = record { few = j .order z .few; order = j .order z .order; short = omega (arith, h, j .order z .short) }
 
       none-of : (t : ℕ) → t ≡ top l q → NoPlan (problem l q) t → NoPlan (problem l q) (q .bound)
       none-of t h n = none-up l q (j .order z .order) (j .order z .short) (subst (λ (b : ℕ). NoPlan (problem l q) b) h n)

@@ -14,13 +14,16 @@ use Rattle.facts.specs.Facts.{has, Decides}
 use Rattle.facts.proofs.Bools.{below-suc, eqb-not, not-eqb, same, says-no, says-test}
 use Rattle.facts.proofs.Sets.{has-zero}
 use Rattle.facts.proofs.Lists.{getD-past}
-use Rattle.rules.specs.Table.{Problem, InOrder}
+use Rattle.rules.specs.Table.{Problem, InOrder, deletes}
 use Rattle.rules.specs.Plans.{Plan, inPlan, Valid}
 use Rattle.rules.specs.Order.{NoPlan}
 use Rattle.rules.proofs.Sums.{sum}
 use Rattle.rules.proofs.Orders.{wider}
 use Rattle.rules.proofs.Enough.{narrower}
-use Rattle.states.specs.State.{Search, Good, Fits, Out, Low, High}
+use Rattle.reach.specs.Rows.{inRows, FitIn}
+use Rattle.reach.proofs.EDeletes.{fit}
+use Rattle.reach.proofs.Alike.{fit-alike, closed-alike}
+use Rattle.states.specs.State.{Search, Good, Has, Fits, Out, Low, High}
 use Rattle.orders.specs.declared.State.{State}
 use Rattle.orders.specs.View.{view}
 use Rattle.rules.proofs.Early.{Alike, never-early, estimates-alike}
@@ -33,7 +36,7 @@ use Rattle.flaws.specs.declared.Ask.{Ask as Flaws}
 use Rattle.search.specs.Leaf.{Answers}
 use Rattle.search.specs.declared.Answer.{Answer}
 use Rattle.planner.specs.Planner.{FirstOf}
-use Rattle.planning.specs.Derived.{RootJob, Rooted, ByFact, AllHit, Ready, FitsAll, From, PlanAt, Later, LastEnd}
+use Rattle.planning.specs.Derived.{RootJob, Rooted, ByFact, AllHit, Begins, Ready, FitsAll, From, PlanAt, Later, LastEnd}
 
 -- a job that is not below n, and one that is
 pub within-no : {n j : ℕ} {A : Type 0} → n ≤ j → Decides false ((j < n) × A)
@@ -138,6 +141,24 @@ module _ (l : Loaded) (q : Ask) (est : List ℕ) (bound : ℕ) (ready : Ready l 
       opening = k .known .opening;
     }
 
+    -- deleted there, deleted here
+    kills : (i p : ℕ) → i < P .problem .count → deletes (problem l q) i p → deletes (P .problem) i p
+    kills i p h x =
+        let m = ready .order .deleted i (omega (arith, k .known .count-is)) p x in
+        k .known .killers p m .of i (killers p m .at i (below i h) (omega (arith, k .known .count-is), x)) .1 .1
+
+    abbrev b : Begins l q est
+    b = ready .begins
+
+    -- the conditions of a job of the plan are pairwise reachable, so it waits for its estimate
+    early : (Q : Plan) → Good P Q → (j : ℕ) → Has P Q j → getD est j 0 ≤ Q j
+    early Q g j i = omega (arith, b .waits j (below j (i .below)) .fit fits, never-early (P .problem) (k .known .wf) (entry (b .base)) (estimates-alike (P .problem) (problem l q) alike (entry (b .base)) (b .solves)) (P .bound) Q g j i)
+      where
+        fits : FitIn (b .rows) (getD (l .conditions) j 0) 64
+        fits r m x u y =
+            fit-alike (P .problem) (problem l q) (k .known .wf) alike kills (inRows (b .rows)) j (i .below)
+            (fit (P .problem) (k .known .wf) (P .bound) Q g (inRows (b .rows)) (closed-alike (P .problem) (problem l q) (k .known .wf) alike kills (inRows (b .rows)) (b .closed)) j i) r u x y
+
     pub rooted-of : Rooted (q .jobs) est (l .durations) bound P
     rooted-of = record {
       few = ready .few;
@@ -146,7 +167,7 @@ module _ (l : Loaded) (q : Ask) (est : List ℕ) (bound : ℕ) (ready : Ready l 
         count = k .known .count-is;
         long = long j h;
         bound-is = k .known .bound;
-        early = λ Q g i. never-early (P .problem) (k .known .wf) (entry est) (estimates-alike (P .problem) (problem l q) alike (entry est) (ready .solves)) (P .bound) Q g j i;
+        early = λ Q g i. early Q g j i;
       };
     }
 

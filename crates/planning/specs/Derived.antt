@@ -1,7 +1,7 @@
 -- What the contracts of the tables that the search reads, and of its first state, cite.
 -- Assumes nothing.
 use mathlib.Core.Path.{_≡_}
-use mathlib.Core.Logic.{_⊎_, _≢_}
+use mathlib.Core.Logic.{_⊎_, _≢_, _↔_}
 use mathlib.Core.Bool.{Bool, true, false}
 use mathlib.Core.List.{List}
 use Prim.Native.Nat.{ℕ, _+_, _≤_, _<_}
@@ -16,6 +16,8 @@ use Rattle.tables.specs.Tables.{problem}
 use Rattle.tables.specs.declared.Loaded.{Loaded}
 use Rattle.tables.specs.declared.Ask.{Ask}
 use Rattle.entries.specs.Entries.{entry}
+use Rattle.reach.specs.Reach.{Closed}
+use Rattle.reach.specs.Rows.{inRows, FitIn}
 use Rattle.states.specs.State.{Search, Has, Good, Fits}
 use Rattle.orders.specs.declared.State.{State}
 use Rattle.orders.specs.View.{view}
@@ -25,6 +27,7 @@ use Rattle.planner.specs.Planner.{RootOk, FirstOf}
 use Rattle.search.specs.declared.Answer.{Answer}
 use Rattle.planning.specs.declared.Range.{Range}
 use Rattle.planning.specs.declared.Least.{Least}
+use Rattle.planning.specs.declared.Outset.{Outset}
 
 -- job j is below n and has fact p in its word
 abbrev pub Among : (words : List ℕ) (n p j : ℕ) → Type 0
@@ -59,11 +62,41 @@ pub record Rooted (n : ℕ) (est durs : List ℕ) (bound : ℕ) (P : Search) : T
 abbrev pub FitsAll : Search → State → Type 0
 FitsAll P s = (Q : Plan) → Good P Q → Fits P Q (view s)
 
--- the estimates of a table in order, and a bound that is no mark
+-- the estimate e, or 65,535 where the conditions c are not pairwise in the rows
+pub record Waits (rows : List ℕ) (c e x : ℕ) : Type 0 where
+  pub fit : FitIn rows c 64 → x ≡ e
+  pub unfit : (FitIn rows c 64 → ⊥) → x ≡ 65535
+
+-- the same of the first n jobs
+abbrev pub AllWait : (rows words base est : List ℕ) (n : ℕ) → Type 0
+AllWait rows words base est n = (j : ℕ) → j < n → Waits rows (getD words j 0) (getD base j 0) (getD est j 0)
+
+-- where the search lets each job begin: at its estimate, or never where its conditions are not pairwise reachable
+pub record Begins (l : Loaded) (q : Ask) (est : List ℕ) : Type 0 where
+  pub base : List ℕ
+  pub solves : Estimates (problem l q) (entry base)
+  pub rows : List ℕ
+  pub closed : Closed (problem l q) (inRows rows)
+  pub waits : AllWait rows (l .conditions) base est 24
+
+-- a table in order with the starts to begin from, and a bound that is no mark
 pub record Ready (l : Loaded) (q : Ask) (est : List ℕ) (bound : ℕ) : Type 0 where
   pub few : q .jobs ≤ 24
   pub order : InOrder (problem l q)
-  pub solves : Estimates (problem l q) (entry est)
+  pub begins : Begins l q est
+  pub short : bound < 65535
+
+-- what is searched for the table l: a table in order that has the same valid plans, and the starts to begin from; no plan where the goals are not pairwise reachable
+pub record SetsOut (l : Loaded) (q : Ask) (r : Outset) : Type 0 where
+  pub order : InOrder (problem (r .table) q)
+  pub same : (bound : ℕ) (s : Plan) → Valid (problem l q) bound s ↔ Valid (problem (r .table) q) bound s
+  pub begins : Begins (r .table) q (r .est)
+  pub hopeless : r .goals ≡ false → (bound : ℕ) → NoPlan (problem l q) bound
+
+-- a table in order, and a bound that is no mark
+pub record InReach (l : Loaded) (q : Ask) (bound : ℕ) : Type 0 where
+  pub few : q .jobs ≤ 24
+  pub order : InOrder (problem l q)
   pub short : bound < 65535
 
 -- the state is one that all valid plans fit, of a search that there is

@@ -1,10 +1,10 @@
 // Planning within a bound, and the least bound.
 ghost use mathlib.Core.Path.{_≡_};
 ghost use mathlib.Core.Bool.{true};
-ghost use Prim.Native.Nat.{ℕ, _+_, _≤_, _<_, min};
-ghost use lib.ListN.{length, getD};
+ghost use Prim.Native.Nat.{_+_, _≤_, _<_, min};
+ghost use lib.ListN.{getD};
 ghost use Rattle.facts.specs.Facts.{Decides};
-ghost use Rattle.rules.specs.Table.{Problem};
+ghost use Rattle.rules.specs.Table.{InOrder};
 ghost use Rattle.rules.proofs.Sums.{sum};
 ghost use Rattle.rules.specs.Refusals.{accepted};
 ghost use Rattle.tables.specs.Tables.{problem, Judges};
@@ -12,9 +12,10 @@ ghost use Rattle.states.specs.State.{Search, Keeps, High};
 ghost use Rattle.orders.specs.View.{view};
 ghost use Rattle.flaws.specs.Flaw.{Cols, Lent};
 ghost use Rattle.search.specs.Leaf.{planOf};
-ghost use Rattle.planning.specs.Derived.{Among, ByFact, Hit, AllHit, RootJob, Rooted, FitsAll, Ready, FromOk, From, PlanAt, Later, LastEnd, Between, Halved, LeastAt, LeastOf};
+ghost use Rattle.planning.specs.Derived.{Among, ByFact, Hit, AllHit, RootJob, Rooted, FitsAll, Waits, AllWait, Ready, SetsOut, FromOk, From, PlanAt, Later, LastEnd, Between, Halved, LeastAt, LeastOf, InReach};
 ghost use Rattle.planning.specs.Planning.{planningChecks, Plannable, PlansWithin, BoundsWithin};
 use orders::State;
+use reach::Pairs;
 use tables::Answer;
 use tables::Ask;
 use tables::Loaded;
@@ -30,6 +31,13 @@ pub struct Least {
     pub found: bool,
     pub bound: u16,
     pub starts: [u16; 24],
+}
+
+// What is searched for a table: the table with e-deletions, where each job may begin, and whether the goals are pairwise reachable.
+pub struct Outset {
+    pub table: Loaded,
+    pub est: [u16; 24],
+    pub goals: bool,
 }
 
 // Job j is below n and has fact p in its word.
@@ -306,6 +314,75 @@ fn least_of(l: Loaded, q: Ask, est: [u16; 24], top: u16) -> Least
     }
 }
 
+// The estimate of a job, or never where its conditions are not pairwise reachable.
+fn waits(s: Pairs, c: u64, est: u16) -> u16
+    ensures { λ r. ⌜ Waits (s .rows) c est r ⌝ }
+{
+    if reach::fits(s, c) {
+        return est;
+    }
+    65535
+}
+
+// The same for all jobs.
+fn all_wait(s: Pairs, words: [u64; 24], est: [u16; 24]) -> [u16; 24]
+    ensures { λ r. ⌜ AllWait (s .rows) words est r 24 ⌝ }
+{
+    let mut t = [0u16; 24];
+    for j in 0..24 {
+        t[j] = waits(s, words[j], est[j]);
+    }
+    t
+}
+
+// What is searched for the table: it has the same plans.
+fn set_out(l: Loaded, q: Ask) -> Outset
+    requires { ⌜ (q .jobs ≤ 24) × InOrder (problem l q) ⌝ }
+    ensures { λ r. ⌜ SetsOut l q r ⌝ }
+{
+    let s = reach::reachable(l, q);
+    let goals = reach::fits(s, q.goals);
+    let table = reach::e_table(l, q.jobs, s);
+    let words = table.conditions;
+    let est = all_wait(s, words, estimates::estimate_all(table, q));
+    Outset { table, est, goals }
+}
+
+// The first plan within top.
+fn first_within(l: Loaded, q: Ask, top: u16) -> search::Answer
+    requires { ⌜ InReach l q top ⌝ }
+    ensures { λ r. ⌜ PlanAt (problem l q) top true r ⌝ }
+{
+    let o = set_out(l, q);
+    let table = o.table;
+    let est = o.est;
+    if !o.goals {
+        return search::Answer {
+            found: false,
+            starts: est,
+        };
+    }
+    plan_at(table, q, est, top, true)
+}
+
+// The least bound up to top, with the first plan at it.
+fn least_within(l: Loaded, q: Ask, top: u16) -> Least
+    requires { ⌜ InReach l q top ⌝ }
+    ensures { λ r. ⌜ LeastOf (problem l q) top r ⌝ }
+{
+    let o = set_out(l, q);
+    let table = o.table;
+    let est = o.est;
+    if !o.goals {
+        return Least {
+            found: false,
+            bound: 65535,
+            starts: est,
+        };
+    }
+    least_of(table, q, est, top)
+}
+
 // Checks 3 to 9, where `room` starts are lent.
 fn planning_fault(l: Loaded, q: Ask, room: usize) -> Answer
     ensures { λ r. ⌜ Judges (planningChecks l q room accepted) (Plannable l q room) r ⌝ }
@@ -329,9 +406,8 @@ pub fn plan_within(l: Loaded, q: Ask, out: &mut [u16]) -> Answer
     if fault.number != 0 {
         return fault;
     }
-    let est = estimates::estimate_all(l, q);
     let top = enough(l, q);
-    let a = plan_at(l, q, est, top, true);
+    let a = first_within(l, q, top);
     let found = a.found;
     if !found {
         return tables::refuse(10, 0, 0);
@@ -349,9 +425,8 @@ pub fn least_bound(l: Loaded, q: Ask, out: &mut [u16]) -> Answer
     if fault.number != 0 {
         return tables::refuse(fault.number, fault.place, 65535);
     }
-    let est = estimates::estimate_all(l, q);
     let top = enough(l, q);
-    let a = least_of(l, q, est, top);
+    let a = least_within(l, q, top);
     let found = a.found;
     if !found {
         return tables::refuse(10, 0, 65535);

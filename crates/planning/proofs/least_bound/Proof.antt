@@ -4,7 +4,7 @@ use Rattle.rules.specs.Refusals.{accepted}
 use Rattle.tables.specs.Tables.{answer}
 use borrow.Author.Tests.{not-true, not-false}
 use denote.Ref.{now}
-use Rattle.planning.proofs.Answers.{ready-of, bounds-refused, bounds-none, bounds-found}
+use Rattle.planning.proofs.Answers.{in-reach, bounds-refused, bounds-none, bounds-found}
 use borrow.Author.Needs.{needs}
 use Rattle.planning.proofs.least_bound.Statement.{statement}
 use Rattle.planning.proofs.least_bound.Tie as tie
@@ -18,23 +18,20 @@ refuse-requires c κs = search needs
 returns : tie.Need-returns
 returns c = bounds-refused (c .before .before .before .before .before .args .l) (c .before .before .before .before .before .args .q) (now (c .before .before .before .before .before .args .out)) (c .before .before .before .planning-fault .ensures) (c .before .if1 .taken) (c .refuse .ensures)
 
-estimate-all-requires : tie.Need-estimate-all-requires
-estimate-all-requires c κs = c .before .before .planning-fault .ensures .order (c .if1 .left) .few
-
 enough-requires : tie.Need-enough-requires
-enough-requires c κs = c .before .before .before .planning-fault .ensures .order (c .before .if1 .left) .few
+enough-requires c κs = c .before .before .planning-fault .ensures .order (c .if1 .left) .few
 
-least-of-requires : tie.Need-least-of-requires
-least-of-requires c κs = ready-of (c .before .before .before .before .before .before .args .l) (c .before .before .before .before .before .before .args .q) (now (c .before .before .before .before .before .before .args .out)) (c .before .before .before .before .planning-fault .ensures) (c .before .before .if1 .left) (c .before .estimate-all .result) (c .enough .result) (c .before .estimate-all .ensures) (c .enough .ensures)
+least-within-requires : tie.Need-least-within-requires
+least-within-requires c κs = in-reach (c .before .before .before .before .before .args .l) (c .before .before .before .before .before .args .q) (now (c .before .before .before .before .before .args .out)) (c .before .before .before .planning-fault .ensures) (c .before .if1 .left) (c .enough .result) (c .enough .ensures)
 
 refuse-requires-2 : tie.Need-refuse-requires-2
 refuse-requires-2 c κs = search needs
 
 returns-2 : tie.Need-returns-2
-returns-2 c = bounds-none (c .before .before .before .before .before .before .before .before .before .args .l) (c .before .before .before .before .before .before .before .before .before .args .q) (now (c .before .before .before .before .before .before .before .before .before .args .out)) (c .before .before .before .before .before .before .before .planning-fault .ensures) (c .before .before .before .before .before .if1 .left) (c .before .before .before .enough .result) (c .before .before .before .enough .ensures) (c .refuse2 .ensures) (c .before .before .least-of .ensures .none (not-true _ (c .before .if2 .taken)))
+returns-2 c = bounds-none (c .before .before .before .before .before .before .before .before .args .l) (c .before .before .before .before .before .before .before .before .args .q) (now (c .before .before .before .before .before .before .before .before .args .out)) (c .before .before .before .before .before .before .planning-fault .ensures) (c .before .before .before .before .if1 .left) (c .before .before .before .enough .result) (c .before .before .before .enough .ensures) (c .refuse2 .ensures) (c .before .before .least-within .ensures .none (not-true _ (c .before .if2 .taken)))
 
 fill-requires : tie.Need-fill-requires
-fill-requires c κs = (c .before .before .before .before .before .before .before .before .planning-fault .ensures .order (c .before .before .before .before .before .before .if1 .left) .few, c .before .before .before .before .before .before .before .before .planning-fault .ensures .order (c .before .before .before .before .before .before .if1 .left) .fits)
+fill-requires c κs = let k = c .before .before .before .before .before .before .before .planning-fault .ensures .order (c .before .before .before .before .before .if1 .left) in (k .few, k .fits)
 
 wide-requires : tie.Need-wide-requires
 wide-requires c κs = search needs
@@ -46,7 +43,7 @@ same-length : tie.Need-same-length
 same-length c = search needs
 
 returns-3 : tie.Need-returns-3
-returns-3 c = bounds-found (c .before .before .before .before .before .before .before .before .before .before .before .before .before .before .before .args .l) (c .before .before .before .before .before .before .before .before .before .before .before .before .before .before .before .args .q) (now (c .before .before .before .before .before .before .before .before .before .before .before .before .before .before .before .args .out)) (c .before .before .before .before .before .before .before .before .before .before .before .before .before .planning-fault .ensures) (c .before .before .before .before .before .before .before .before .before .before .before .if1 .left) (c .before .before .before .before .before .before .before .before .before .enough .result) (c .before .before .before .before .before .before .before .before .least-of .result .bound) (c .before .before .before .before .before .before .before .before .least-of .result .starts) _ (c .before .before .before .before .before .before .before .before .before .enough .ensures) (search needs) (c .done .ensures ∙ ap (λ (v : ℕ). answer accepted v 0) (c .before .wide .ensures .0)) (c .before .before .before .before .fill .ensures) (c .before .before .before .before .before .before .before .before .least-of .ensures .found (not-false _ (c .before .before .before .before .before .before .before .if2 .left)))
+returns-3 c = bounds-found (c .before .before .before .before .before .before .before .before .before .before .before .before .before .before .args .l) (c .before .before .before .before .before .before .before .before .before .before .before .before .before .before .args .q) (now (c .before .before .before .before .before .before .before .before .before .before .before .before .before .before .args .out)) (c .before .before .before .before .before .before .before .before .before .before .before .before .planning-fault .ensures) (c .before .before .before .before .before .before .before .before .before .before .if1 .left) (c .before .before .before .before .before .before .before .before .before .enough .result) (c .before .before .before .before .before .before .before .before .least-within .result .bound) (c .before .before .before .before .before .before .before .before .least-within .result .starts) _ (c .before .before .before .before .before .before .before .before .before .enough .ensures) (search needs) (c .done .ensures ∙ ap (λ (v : ℕ). answer accepted v 0) (c .before .wide .ensures .0)) (c .before .before .before .before .fill .ensures) (c .before .before .before .before .before .before .before .before .least-within .ensures .found (not-false _ (c .before .before .before .before .before .before .before .if2 .left)))
 
 pub least-bound-spec : {M : Type 1} → statement M
 least-bound-spec =
@@ -55,9 +52,8 @@ least-bound-spec =
     planning-fault-requires
     refuse-requires
     returns
-    estimate-all-requires
     enough-requires
-    least-of-requires
+    least-within-requires
     refuse-requires-2
     returns-2
     fill-requires

@@ -22,10 +22,10 @@ cast-narrow : tie.Need-cast-narrow
 cast-narrow c = omega (arith, end-within (problem (c .before .before .before .before .args .l) (c .before .before .before .before .args .q)) (c .before .before .before .before .pre .order) (planOf (c .before .before .before .plan-at .result .starts)) (c .before .before .before .before .args .top) (c .last-end .result) (c .last-end .ensures (c .before .before .before .before .args .q)) (c .before .before .before .plan-at .ensures .found (not-false _ (c .before .if1 .left))), c .before .before .before .before .pre .short)
 
 narrow-requires : tie.Need-narrow-requires
-narrow-requires c κs = (record { few = c .before .before .before .before .pre .few; order = c .before .before .before .before .pre .order; solves = c .before .before .before .before .pre .solves; short = omega (arith, end-within (problem (c .before .before .before .before .args .l) (c .before .before .before .before .args .q)) (c .before .before .before .before .pre .order) (planOf (c .before .before .before .plan-at .result .starts)) (c .before .before .before .before .args .top) (c .last-end .result) (c .last-end .ensures (c .before .before .before .before .args .q)) (c .before .before .before .plan-at .ensures .found (not-false _ (c .before .if1 .left))), c .before .before .before .before .pre .short) }, record { none = λ k h. absurd (omega arith); some = (planOf (c .before .before .before .plan-at .result .starts), end-valid (problem (c .before .before .before .before .args .l) (c .before .before .before .before .args .q)) (c .before .before .before .before .pre .order) (planOf (c .before .before .before .plan-at .result .starts)) (c .before .before .before .before .args .top) (c .last-end .result) (c .last-end .ensures (c .before .before .before .before .args .q)) (c .before .before .before .plan-at .ensures .found (not-false _ (c .before .if1 .left)))) })
+narrow-requires c κs = (record { few = c .before .before .before .before .pre .few; order = c .before .before .before .before .pre .order; begins = c .before .before .before .before .pre .begins; short = omega (arith, end-within (problem (c .before .before .before .before .args .l) (c .before .before .before .before .args .q)) (c .before .before .before .before .pre .order) (planOf (c .before .before .before .plan-at .result .starts)) (c .before .before .before .before .args .top) (c .last-end .result) (c .last-end .ensures (c .before .before .before .before .args .q)) (c .before .before .before .plan-at .ensures .found (not-false _ (c .before .if1 .left))), c .before .before .before .before .pre .short) }, record { none = λ k h. absurd (omega arith); some = (planOf (c .before .before .before .plan-at .result .starts), end-valid (problem (c .before .before .before .before .args .l) (c .before .before .before .before .args .q)) (c .before .before .before .before .pre .order) (planOf (c .before .before .before .plan-at .result .starts)) (c .before .before .before .before .args .top) (c .last-end .result) (c .last-end .ensures (c .before .before .before .before .args .q)) (c .before .before .before .plan-at .ensures .found (not-false _ (c .before .if1 .left)))) })
 
 plan-at-requires-2 : tie.Need-plan-at-requires-2
-plan-at-requires-2 c κs = record { few = c .before .before .before .before .before .pre .few; order = c .before .before .before .before .before .pre .order; solves = c .before .before .before .before .before .pre .solves; short = omega (arith, c .narrow .ensures .within, end-within (problem (c .before .before .before .before .before .args .l) (c .before .before .before .before .before .args .q)) (c .before .before .before .before .before .pre .order) (planOf (c .before .before .before .before .plan-at .result .starts)) (c .before .before .before .before .before .args .top) (c .before .last-end .result) (c .before .last-end .ensures (c .before .before .before .before .before .args .q)) (c .before .before .before .before .plan-at .ensures .found (not-false _ (c .before .before .if1 .left))), c .before .before .before .before .before .pre .short) }
+plan-at-requires-2 c κs = record { few = c .before .before .before .before .before .pre .few; order = c .before .before .before .before .before .pre .order; begins = c .before .before .before .before .before .pre .begins; short = omega (arith, c .narrow .ensures .within, end-within (problem (c .before .before .before .before .before .args .l) (c .before .before .before .before .before .args .q)) (c .before .before .before .before .before .pre .order) (planOf (c .before .before .before .before .plan-at .result .starts)) (c .before .before .before .before .before .args .top) (c .before .last-end .result) (c .before .last-end .ensures (c .before .before .before .before .before .args .q)) (c .before .before .before .before .plan-at .ensures .found (not-false _ (c .before .before .if1 .left))), c .before .before .before .before .before .pre .short) }
 
 returns-2 : tie.Need-returns-2
 returns-2 c = record { found = λ e. record { within = omega (arith, c .before .before .narrow .ensures .within, end-within (problem (c .before .before .before .before .before .before .before .args .l) (c .before .before .before .before .before .before .before .args .q)) (c .before .before .before .before .before .before .before .pre .order) (planOf (c .before .before .before .before .before .before .plan-at .result .starts)) (c .before .before .before .before .before .before .before .args .top) (c .before .before .before .last-end .result) (c .before .before .before .last-end .ensures (c .before .before .before .before .before .before .before .args .q)) (c .before .before .before .before .before .before .plan-at .ensures .found (not-false _ (c .before .before .before .before .if1 .left)))); first = c .before .plan-at2 .ensures .least (surely (problem (c .before .before .before .before .before .before .before .args .l) (c .before .before .before .before .before .before .before .args .q)) (c .before .before .narrow .result) true (c .before .plan-at2 .result) (c .before .plan-at2 .ensures) (c .before .before .narrow .ensures .between .some)) refl; none = λ k z h. c .before .before .narrow .ensures .between .none k h z }; none = λ e. absurd (true≢false e) }

@@ -17,7 +17,7 @@ loop-holds : tie.Need-loop-holds Inv-loop μ-loop
 loop-holds c = (omega arith, omega arith, c .pre .1)
 
 halve-requires : tie.Need-halve-requires Inv-loop μ-loop
-halve-requires c κs = (record { few = c .before .before .pre .0 .few; order = c .before .before .pre .0 .order; solves = c .before .before .pre .0 .solves; short = omega (arith, c .before .before .pre .0 .short) }, (c .loop-test .taken, c .before .loop .inv .2))
+halve-requires c κs = (record { few = c .before .before .pre .0 .few; order = c .before .before .pre .0 .order; begins = c .before .before .pre .0 .begins; short = omega (arith, c .before .before .pre .0 .short) }, (c .loop-test .taken, c .before .loop .inv .2))
 
 loop-less : tie.Need-loop-less Inv-loop μ-loop
 loop-less c = ⊎-elim (λ h. omega (arith, c .halve .ensures .within, c .halve .ensures .top)) (λ h. omega (arith, c .halve .ensures .within, c .halve .ensures .bottom)) (c .halve .ensures .less)
