@@ -31,7 +31,7 @@ pub record Exact (P : Problem) (S : PairSet) : Type 0 where
   pub closed : Closed P S
   pub least : (p q : ℕ) → T (S p q) → Reachable P p q
 
--- two facts exclude each other where their pair is not in the set
+-- two facts exclude each other (003: are mutex) where their pair is not in the set
 abbrev pub Exclude : PairSet → ℕ → ℕ → Type 0
 Exclude S p q = T (S p q) → ⊥
 
