@@ -4,3 +4,4 @@ pub mod Refuted
 pub mod Firsts
 pub mod Shown
 pub mod Cases
+pub mod Trolley

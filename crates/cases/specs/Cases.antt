@@ -48,6 +48,10 @@ drop = record { needs = 1 ∷ []; adds = 2 ∷ []; deletes = []; long = 1 }
 abbrev pub pick : Job
 pick = record { needs = 0 ∷ 2 ∷ []; adds = 3 ∷ []; deletes = []; long = 1 }
 
+-- the table of P8: four facts, open {0}, goals {1, 3}
+abbrev pub trolley : Problem
+trolley = problem (go ∷ back ∷ drop ∷ pick ∷ []) 4 (0 ∷ []) (1 ∷ 3 ∷ [])
+
 -- a job that is out
 abbrev pub out : ℕ
 out = 65535
@@ -74,8 +78,8 @@ cases =
     ∷ plans (problem [] 2 (0 ∷ []) []) 0 []
     -- P7: goals {1}, open {0}: refusal 10
     ∷ noPlan (problem [] 2 (0 ∷ []) (1 ∷ [])) 0
-    -- P8: four facts, open {0}, goals {1, 3}, bound 12: refusal 10, since go is wanted twice
-    ∷ noPlan (problem (go ∷ back ∷ drop ∷ pick ∷ []) 4 (0 ∷ []) (1 ∷ 3 ∷ [])) 12
+    -- P8: bound 12: refusal 10, since go is wanted twice
+    ∷ noPlan trolley 12
     -- P9: 24.000000000000004 has 240 tenths
     ∷ tenths (float 0x4038_0000_0000_0001) (pos 240)
     -- P9: 23.999999999999996 has 239

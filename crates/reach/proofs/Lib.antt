@@ -4,6 +4,5 @@ pub mod Rounds
 pub mod Same
 pub mod Only
 pub mod Alike
-pub mod Trolley
 pub mod Laws
 pub mod Words

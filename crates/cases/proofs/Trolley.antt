@@ -1,8 +1,7 @@
--- Two facts that exclude each other: in P8 the trolley is never in both houses.
+-- In P8 the trolley is never in both houses: facts 0 and 1 exclude each other.
 -- Assumes nothing.
 use mathlib.Core.Path.{_≡_, refl, sym, subst}
 use mathlib.Core.Bool.{not}
-use mathlib.Core.List.{[], _∷_}
 use Prim.Native.Nat.{ℕ, zero, suc, _+_, _^_, _<_}
 use native.Mathlib.Omega.{arith}
 use lib.Dec.{T, eqb, eqb→eq}
@@ -11,15 +10,13 @@ use Rattle.facts.specs.Least.{least, any}
 use Rattle.facts.proofs.Bools.{eqb-of, eqb-not, not-eqb}
 use Rattle.facts.proofs.Sets.{has-pow}
 use Rattle.rules.specs.Refusals.{refuseIf, refuseAt}
-use Rattle.rules.specs.Table.{Problem, InOrder, listed, adds, deletes, tableChecks, jobChecks, between, jobStrays, strays, undoes}
+use Rattle.rules.specs.Table.{InOrder, adds, deletes, tableChecks, jobChecks, between, jobStrays, strays, undoes}
 use Rattle.rules.specs.Plans.{Plan, holds, Valid}
 use Rattle.rules.proofs.Checked.{in-order}
+use Rattle.cases.specs.Jobs.{facts}
+use Rattle.cases.specs.Cases.{trolley}
 use Rattle.reach.specs.Reach.{PairSet, Closed, Reachable, Exact, EDeletes, by-needing}
 use Rattle.reach.proofs.States.{no-unreachable}
-
--- go, back, drop and pick; the trolley is in the first house (fact 0) or in the second (fact 1)
-abbrev pub trolley : Problem
-trolley = listed 4 (1 ∷ 2 ∷ 2 ∷ 5 ∷ []) (2 ∷ 1 ∷ 4 ∷ 8 ∷ []) (1 ∷ 2 ∷ 0 ∷ 0 ∷ []) (1 ∷ 1 ∷ 1 ∷ 1 ∷ []) 4 1 10
 
 -- every pair but that of the two houses
 abbrev others : PairSet
@@ -35,6 +32,7 @@ itself : (k p : ℕ) → p ≡ k → T (has (2 ^ k) p)
 itself k p e = subst T (sym (has-pow k p)) (eqb-of e)
 
 both : (i p q : ℕ) → i < 4 → adds trolley i p → adds trolley i q → T (others p q)
+unfolding facts
 both zero p q l a b = other p q (λ e. omega (arith, only 1 p a, only 1 q b))
 both (suc zero) p q l a b = other p q (λ e. omega (arith, only 0 p a, only 0 q b))
 both (suc (suc zero)) p q l a b = other p q (λ e. omega (arith, only 2 p a))
@@ -42,6 +40,7 @@ both (suc (suc (suc zero))) p q l a b = other p q (λ e. omega (arith, only 3 p 
 both (suc (suc (suc (suc i)))) p q l a b = absurd (omega arith)
 
 beside : (i p q : ℕ) → i < 4 → adds trolley i p → (deletes trolley i q → ⊥) → T (others p q)
+unfolding facts
 beside zero p q l a n = other p q (λ e. n (itself 0 q (omega (arith, only 1 p a))))
 beside (suc zero) p q l a n = other p q (λ e. n (itself 1 q (omega (arith, only 0 p a))))
 beside (suc (suc zero)) p q l a n = other p q (λ e. omega (arith, only 2 p a))
@@ -49,6 +48,7 @@ beside (suc (suc (suc zero))) p q l a n = other p q (λ e. omega (arith, only 3 
 beside (suc (suc (suc (suc i)))) p q l a n = absurd (omega arith)
 
 closed : Closed trolley others
+unfolding facts
 closed = record {
   swaps = λ p q h. other q p (λ e. eqb-not (p + q) 1 h (omega arith));
   opens = λ p q x y. other p q (λ e. omega (arith, only 0 p x, only 0 q y));
@@ -60,7 +60,7 @@ pub houses-exclude : Reachable trolley 0 1 → ⊥
 houses-exclude h = h others closed
 
 ordered : InOrder trolley
-unfolding tableChecks jobChecks between jobStrays strays undoes refuseIf refuseAt any least has
+unfolding tableChecks jobChecks between jobStrays strays undoes refuseIf refuseAt any least has facts
 ordered = in-order trolley refl
 
 -- so no state of a valid plan has it in both
@@ -69,5 +69,5 @@ one-house bound s v t x y = houses-exclude (no-unreachable trolley ordered bound
 
 -- and pick, which deletes nothing and needs it in the first, e-deletes that it is in the second
 pub pick-e-deletes : (S : PairSet) → Exact trolley S → EDeletes trolley S 3 1
-unfolding has
+unfolding has facts
 pick-e-deletes S x = by-needing 0 tt (λ h. houses-exclude (x .least 0 1 h)) (λ a. a)
