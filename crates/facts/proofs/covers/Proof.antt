@@ -3,8 +3,5 @@ use Rattle.facts.proofs.Sets.{covers-and}
 use Rattle.facts.proofs.covers.Statement.{statement}
 use Rattle.facts.proofs.covers.Tie as tie
 
-returns : tie.Need-returns
-returns c = decides-eqb _ _ (covers-and 64 (c .args .have) (c .args .want) (c .fits .want .fits))
-
 pub covers-spec : {M : Type 1} → statement M
-covers-spec = tie.close (tie.spec returns)
+covers-spec = tie.close (tie.spec (λ c. decides-eqb _ _ (covers-and 64 (c .args .have) (c .args .want) (c .fits .want .fits))))
