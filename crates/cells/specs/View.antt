@@ -1,0 +1,111 @@
+-- The state of the code, one list of words, as a state of the theory; its places and its changes.
+-- Assumes nothing.
+use mathlib.Core.Path.{_≡_}
+use mathlib.Core.Logic.{_⊎_}
+use mathlib.Core.List.{List}
+use Prim.Native.Nat.{ℕ, _+_, _*_, _≤_, _<_, _^_}
+use lib.Bits.{bitOr}
+use lib.ListN.{getD, set, length}
+use lib.Dec.{T}
+use Rattle.facts.specs.Facts.{has}
+use Rattle.rules.specs.Plans.{Plan}
+use Rattle.rules.specs.Table.{InOrder}
+use Rattle.states.specs.State.{Search, St, More, Keeps, Fits, Has, Ahead}
+
+-- the words: the jobs inside, the jobs barred; of each job those over before it, those not over before it, its window
+pub data Place : Type 0 where
+  ins : Place
+  outs : Place
+  sures : ℕ → Place
+  nevers : ℕ → Place
+  los : ℕ → Place
+  his : ℕ → Place
+
+-- where they stand: 100 words for 24 jobs (the words 2 and 3 are free), and no two places are one, whatever the job
+abbrev pub at : Place → ℕ
+at ins = 0
+at outs = 1
+at (sures b) = 4 * b + 4
+at (nevers b) = 4 * b + 5
+at (los j) = 4 * j + 6
+at (his j) = 4 * j + 7
+
+abbrev pub word : List ℕ → Place → ℕ
+word s p = getD s (at p) 0
+
+abbrev pub view : List ℕ → St
+view s = record {
+  inside = λ j. has (word s ins) j;
+  barred = λ j. has (word s outs) j;
+  sure = λ a b. has (word s (sures b)) a;
+  never = λ a b. has (word s (nevers b)) a;
+  lo = λ j. word s (los j);
+  hi = λ j. word s (his j);
+}
+
+-- no less is said, and every plan of a problem of which Ok is so is kept
+pub record Prunes (Ok : Search → Type 0) (s r : List ℕ) : Type 0 where
+  pub more : More (view s) (view r)
+  pub keeps : (P : Search) → InOrder (P .problem) → Ok P → Keeps P (view s) (view r)
+
+-- no less is said, and every plan of which A is so is kept
+pub record Says (A : Search → Plan → Type 0) (s r : List ℕ) : Type 0 where
+  pub more : More (view s) (view r)
+  pub fits : (P : Search) (Q : Plan) → Fits P Q (view s) → A P Q → Fits P Q (view r)
+
+-- a rule that asks nothing of the problem
+abbrev pub Any : Search → Type 0
+Any P = Unit {0}
+
+-- one word is another
+pub record Sets (s : List ℕ) (i x : ℕ) (r : List ℕ) : Type 0 where
+  pub is : r ≡ set s i x
+  pub room : i < length s
+
+-- the word at p is x, and that says A of a plan
+pub record Puts (A : Search → Plan → Type 0) (p : Place) (x : ℕ) (s r : List ℕ) : Type 0 where
+  pub sets : Sets s (at p) x r
+  pub more : More (view s) (view r)
+  pub fits : (P : Search) (Q : Plan) → Fits P Q (view s) → A P Q → Fits P Q (view r)
+
+-- the word at p with one bit more
+abbrev pub PutsBit : (Search → Plan → Type 0) → Place → ℕ → List ℕ → List ℕ → Type 0
+PutsBit A p j s r = Puts A p (bitOr (word s p) (2 ^ j)) s r
+
+-- the state says nothing: every word is 0 but for the latest starts of the first n jobs, which are 65,535
+pub record Blank (s : List ℕ) (n : ℕ) : Type 0 where
+  pub ins : word s ins ≡ 0
+  pub outs : word s outs ≡ 0
+  pub sures : (b : ℕ) → word s (sures b) ≡ 0
+  pub nevers : (b : ℕ) → word s (nevers b) ≡ 0
+  pub los : (j : ℕ) → word s (los j) ≡ 0
+  pub his : (j : ℕ) → j < n → word s (his j) ≡ 65535
+
+-- r is the word w, with job j more where A is so
+pub record Noted (A : Type 0) (j w r : ℕ) : Type 0 where
+  pub keeps : (i : ℕ) → T (has w i) → T (has r i)
+  pub of : (i : ℕ) → T (has r i) → T (has w i) ⊎ ((i ≡ j) × (j < 24) × A)
+  pub at : j < 24 → A → T (has r j)
+
+-- ── what a word can say of a plan ──
+
+abbrev pub IsIn : ℕ → Search → Plan → Type 0
+IsIn x P Q = Has P Q x
+
+abbrev pub IsOut : ℕ → Search → Plan → Type 0
+IsOut x P Q = Has P Q x → ⊥
+
+abbrev pub Before : ℕ → ℕ → Search → Plan → Type 0
+Before a b P Q = Has P Q a → Has P Q b → Ahead P Q a b
+
+abbrev pub AllBefore : (jobs b : ℕ) → Search → Plan → Type 0
+AllBefore v b P Q = (a : ℕ) → T (has v a) → Before a b P Q
+
+abbrev pub NotBefore : ℕ → ℕ → Search → Plan → Type 0
+NotBefore a b P Q = Has P Q a → Has P Q b → Ahead P Q a b → ⊥
+
+abbrev pub From : ℕ → ℕ → Search → Plan → Type 0
+From j x P Q = Has P Q j → x ≤ Q j
+
+abbrev pub Till : ℕ → ℕ → Search → Plan → Type 0
+Till j x P Q = Has P Q j → Q j ≤ x
