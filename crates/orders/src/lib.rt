@@ -1,341 +1,268 @@
-// The state of the search, its six changes, and the rules along orders of pairs.
+// The rules along windows and orders of pairs.
 ghost use mathlib.Core.Path.{_≡_};
 ghost use mathlib.Core.Bool.{true};
-ghost use Prim.Native.Nat.{ℕ, _<_, _^_};
-ghost use lib.Bits.{bitOr};
-ghost use lib.Dec.{T};
-ghost use lib.ListN.{length};
-ghost use Rattle.facts.specs.Facts.{has};
-ghost use Rattle.rules.specs.Table.{InOrder};
-ghost use Rattle.states.specs.State.{Search, Keeps, Dead};
-ghost use Rattle.orders.specs.View.{view, orBit, PutInside, PutBarred, PutSure, PutSures, PutNever, PutLo, PutHi, Prunes, Takes, Any, Tabled, Clashes};
+ghost use Prim.Native.Nat.{_<_};
+ghost use Rattle.states.specs.State.{Search, Dead};
+ghost use Rattle.cells.specs.View.{view, Prunes, Says, Any, From};
+ghost use Rattle.lent.specs.Lent.{Takes, Lent};
+ghost use Rattle.orders.specs.Order.{Clashes, Tills};
+use cells::State;
+use lent::Tables;
 
-pub struct State {
-    pub inside: u32,
-    pub barred: u32,
-    pub sure: [u32; 24],
-    pub never: [u32; 24],
-    pub lo: [u16; 24],
-    pub hi: [u16; 24],
-}
-
-// Bit j of w.
-pub fn has(w: u32, j: usize) -> bool
+// Job j starts at x or later, or is out.
+pub fn from(s: &mut State, j: usize, x: u64)
     requires { ⌜ j < 24 ⌝ }
-    ensures { λ r. ⌜ r ≡ has w j ⌝ }
+    ensures { λ _. ⌜ Says (From j x) (now (s .entry)) (now (s .exit)) ⌝ }
 {
-    (w >> j) % 2 == 1
-}
-
-// w with bit j set.
-pub fn with(w: u32, j: usize) -> u32
-    requires { ⌜ j < 24 ⌝ }
-    ensures { λ r. ⌜ r ≡ bitOr w (2 ^ j) ⌝ }
-{
-    w | (1u32 << j)
-}
-
-// Bit j of w is set where the flag is.
-pub fn with_if(w: u32, j: usize, flag: bool) -> u32
-    requires { ⌜ j < 24 ⌝ }
-    ensures { λ r. ⌜ r ≡ orBit flag w j ⌝ }
-{
-    if flag {
-        return with(w, j);
+    if cells::wide(cells::hi(s, j)) < x {
+        cells::put_barred(s, j);
+        return;
     }
-    w
+    if cells::wide(cells::lo(s, j)) < x {
+        cells::put_lo(s, j, x as u32);
+    }
 }
 
-// The same number, wide enough for sums.
-pub fn wide(x: u16) -> u32
-    ensures { λ r. ⌜ (r ≡ x) × (r < 65536) ⌝ }
-{
-    x as u32
-}
-
-// Job j is in.
-pub fn put_inside(s: State, j: usize) -> State
+// Job j starts by x.
+pub fn till(s: &mut State, j: usize, x: u32)
     requires { ⌜ j < 24 ⌝ }
-    ensures { λ r. ⌜ PutInside s j r ⌝ }
+    ensures { λ _. ⌜ Tills (now (s .entry)) j x (now (s .exit)) ⌝ }
 {
-    let mut t = s;
-    t.inside = with(t.inside, j);
-    t
-}
-
-// Job j is out.
-pub fn put_barred(s: State, j: usize) -> State
-    requires { ⌜ j < 24 ⌝ }
-    ensures { λ r. ⌜ PutBarred s j r ⌝ }
-{
-    let mut t = s;
-    t.barred = with(t.barred, j);
-    t
-}
-
-// a is over before b.
-pub fn put_sure(s: State, a: usize, b: usize) -> State
-    requires { ⌜ (a < 24) × (b < 24) ⌝ }
-    ensures { λ r. ⌜ PutSure s a b r ⌝ }
-{
-    let mut t = s;
-    let w = t.sure[b];
-    t.sure[b] = with(w, a);
-    t
-}
-
-// a is not over before b.
-pub fn put_never(s: State, a: usize, b: usize) -> State
-    requires { ⌜ (a < 24) × (b < 24) ⌝ }
-    ensures { λ r. ⌜ PutNever s a b r ⌝ }
-{
-    let mut t = s;
-    let w = t.never[b];
-    t.never[b] = with(w, a);
-    t
-}
-
-// Job j starts at x or later.
-pub fn put_lo(s: State, j: usize, x: u16) -> State
-    requires { ⌜ j < 24 ⌝ }
-    ensures { λ r. ⌜ PutLo s j x r ⌝ }
-{
-    let mut t = s;
-    t.lo[j] = x;
-    t
-}
-
-// Job j starts at x or earlier.
-pub fn put_hi(s: State, j: usize, x: u16) -> State
-    requires { ⌜ j < 24 ⌝ }
-    ensures { λ r. ⌜ PutHi s j x r ⌝ }
-{
-    let mut t = s;
-    t.hi[j] = x;
-    t
+    if x < cells::hi(s, j) {
+        cells::put_hi(s, j, x);
+    }
 }
 
 // a is over before b and a is inside: b starts late enough, or is out.
-fn push(s: State, a: usize, b: usize, step: u16) -> State
+fn push(s: &mut State, a: usize, b: usize, step: u32)
     requires { ⌜ (a < 24) × (b < 24) ⌝ }
-    ensures { λ r. ⌜ Prunes (Takes a step) s r ⌝ }
+    ensures { λ _. ⌜ Prunes (Takes a step) (now (s .entry)) (now (s .exit)) ⌝ }
 {
-    let w = s.sure[b];
-    if !has(w, a) {
-        return s;
+    if !cells::sure(s, a, b) {
+        return;
     }
-    if !has(s.inside, a) {
-        return s;
+    if !cells::inside(s, a) {
+        return;
     }
-    let x = wide(s.lo[a]) + wide(step);
-    if wide(s.hi[b]) < x {
-        return put_barred(s, b);
-    }
-    if x <= wide(s.lo[b]) {
-        return s;
-    }
-    put_lo(s, b, x as u16)
+    let x = cells::sum(cells::lo(s, a), step);
+    from(s, b, x);
 }
 
 // a is over before b and b is inside: a starts early enough, or is out.
-fn pull(s: State, a: usize, b: usize, step: u16) -> State
+fn pull(s: &mut State, a: usize, b: usize, step: u32)
     requires { ⌜ (a < 24) × (b < 24) ⌝ }
-    ensures { λ r. ⌜ Prunes (Takes a step) s r ⌝ }
+    ensures { λ _. ⌜ Prunes (Takes a step) (now (s .entry)) (now (s .exit)) ⌝ }
 {
-    let w = s.sure[b];
-    if !has(w, a) {
-        return s;
+    if !cells::sure(s, a, b) {
+        return;
     }
-    if !has(s.inside, b) {
-        return s;
+    if !cells::inside(s, b) {
+        return;
     }
-    let y = s.hi[b];
+    let y = cells::hi(s, b);
     if y < step {
-        return put_barred(s, a);
+        cells::put_barred(s, a);
+        return;
     }
-    let x = y - step;
-    if s.hi[a] <= x {
-        return s;
-    }
-    put_hi(s, a, x)
+    till(s, a, y - step);
 }
 
 // The windows keep a from being over before b.
-fn far(s: State, a: usize, b: usize, step: u16) -> State
+fn far(s: &mut State, a: usize, b: usize, step: u32)
     requires { ⌜ (a < 24) × (b < 24) ⌝ }
-    ensures { λ r. ⌜ Prunes (Takes a step) s r ⌝ }
+    ensures { λ _. ⌜ Prunes (Takes a step) (now (s .entry)) (now (s .exit)) ⌝ }
 {
-    let x = wide(s.lo[a]) + wide(step);
-    if wide(s.hi[b]) < x {
-        return put_never(s, a, b);
+    if cells::wide(cells::hi(s, b)) < cells::sum(cells::lo(s, a), step) {
+        cells::put_never(s, a, b);
     }
-    s
 }
 
 // a over before b: not b before a. Of two that interfere, not a before b: b before a.
-fn orders(s: State, a: usize, b: usize, hit: bool) -> State
+fn orders(s: &mut State, a: usize, b: usize, hit: bool)
     requires { ⌜ (a < 24) × (b < 24) ⌝ }
-    ensures { λ r. ⌜ Prunes (Clashes a b hit) s r ⌝ }
+    ensures { λ _. ⌜ Prunes (Clashes a b hit) (now (s .entry)) (now (s .exit)) ⌝ }
 {
-    let w = s.sure[b];
-    if has(w, a) {
-        return put_never(s, b, a);
+    if cells::sure(s, a, b) {
+        cells::put_never(s, b, a);
+        return;
     }
-    let n = s.never[b];
-    if !has(n, a) {
-        return s;
+    if !cells::never(s, a, b) {
+        return;
     }
-    if !hit {
-        return s;
+    if hit {
+        cells::put_sure(s, b, a);
     }
-    put_sure(s, b, a)
 }
 
 // Both orders of a pair and one of its jobs inside: the other is out.
-fn clash(s: State, a: usize, b: usize) -> State
+fn clash(s: &mut State, a: usize, b: usize)
     requires { ⌜ (a < 24) × (b < 24) ⌝ }
-    ensures { λ r. ⌜ Prunes Any s r ⌝ }
+    ensures { λ _. ⌜ Prunes Any (now (s .entry)) (now (s .exit)) ⌝ }
 {
-    let w = s.sure[b];
-    if !has(w, a) {
-        return s;
+    if !cells::sure(s, a, b) {
+        return;
     }
-    let n = s.never[b];
-    if !has(n, a) {
-        return s;
+    if !cells::never(s, a, b) {
+        return;
     }
-    if has(s.inside, a) {
-        return put_barred(s, b);
+    if cells::inside(s, a) {
+        cells::put_barred(s, b);
+        return;
     }
-    if has(s.inside, b) {
-        return put_barred(s, a);
+    if cells::inside(s, b) {
+        cells::put_barred(s, a);
     }
-    s
 }
 
 // All of these for one pair.
-fn pair(s: State, a: usize, b: usize, step: u16, hit: bool) -> State
+fn pair(s: &mut State, a: usize, b: usize, t: &Tables)
     requires { ⌜ (a < 24) × (b < 24) ⌝ }
-    ensures { λ r. ⌜ ((P : Search) → InOrder (P .problem) → Takes a step P → Clashes a b hit P → Keeps P (view s) (view r)) ⌝ }
+    ensures { λ _. ⌜ Prunes (Lent (now (t .entry))) (now (s .entry)) (now (s .exit)) ⌝ }
 {
-    let t = push(s, a, b, step);
-    let t = pull(t, a, b, step);
-    let t = far(t, a, b, step);
-    let t = orders(t, a, b, hit);
-    clash(t, a, b)
+    let step = lent::step(t, a);
+    push(s, a, b, step);
+    pull(s, a, b, step);
+    far(s, a, b, step);
+    orders(s, a, b, cells::has(lent::hits(t, a), b));
+    clash(s, a, b);
 }
 
-// The rules may tell something of the pair: a is not out, and the order is known or the windows settle it. Any answer is right; this one saves work.
-fn stirs(barred: u32, known: u32, a: usize, lo: u16, step: u16, hi: u16) -> bool
-    requires { ⌜ a < 24 ⌝ }
+// Of a pair in order: something is missing that follows from it. Any answer is right; this one saves work.
+fn strains(s: &State, a: usize, b: usize, step: u32) -> bool
+    requires { ⌜ (a < 24) × (b < 24) ⌝ }
 {
-    if has(barred, a) {
-        return false;
-    }
-    if has(known, a) {
+    if !cells::never(s, b, a) {
         return true;
     }
-    wide(hi) < wide(lo) + wide(step)
+    if cells::never(s, a, b) {
+        return true;
+    }
+    let early = cells::wide(cells::lo(s, b)) < cells::sum(cells::lo(s, a), step);
+    if early & cells::inside(s, a) {
+        return true;
+    }
+    let late = cells::wide(cells::hi(s, b)) < cells::sum(cells::hi(s, a), step);
+    late & cells::inside(s, b)
 }
 
-// All pairs with b.
-fn pairs_at(s: State, b: usize, steps: &[u16], hits: &[u32]) -> State
-    requires { ⌜ (b < 24) × ((length (now steps) ≡ 24) × (length (now hits) ≡ 24)) ⌝ }
-    ensures { λ r. ⌜ Prunes (Tabled (now (steps .entry)) (now (hits .entry))) s r ⌝ }
+// The rules may tell something of the pair. Any answer is right; this one saves work.
+fn stirs(s: &State, a: usize, b: usize, t: &Tables) -> bool
+    requires { ⌜ (a < 24) × (b < 24) ⌝ }
 {
-    let mut t = s;
-    for a in 0..24 {
-        let known = t.sure[b] | t.never[b];
-        if stirs(t.barred, known, a, t.lo[a], steps[a], t.hi[b]) {
-            let hit = has(hits[a], b);
-            t = pair(t, a, b, steps[a], hit);
-        }
+    let step = lent::step(t, a);
+    if cells::sure(s, a, b) {
+        return strains(s, a, b, step);
     }
-    t
+    if !cells::never(s, a, b) {
+        return cells::wide(cells::hi(s, b)) < cells::sum(cells::lo(s, a), step);
+    }
+    if cells::sure(s, b, a) {
+        return false;
+    }
+    cells::has(lent::hits(t, a), b)
+}
+
+// The pair a, b, unless the rules tell nothing of it.
+fn pair_at(s: &mut State, a: usize, b: usize, t: &Tables)
+    requires { ⌜ b < 24 ⌝ }
+    ensures { λ _. ⌜ Prunes (Lent (now (t .entry))) (now (s .entry)) (now (s .exit)) ⌝ }
+{
+    if 24 <= a {
+        return;
+    }
+    if stirs(s, a, b, t) {
+        pair(s, a, b, t);
+    }
+}
+
+// All pairs with b, where no job is out.
+fn pairs_at(s: &mut State, b: usize, t: &Tables)
+    requires { ⌜ b < 24 ⌝ }
+    ensures { λ _. ⌜ Prunes (Lent (now (t .entry))) (now (s .entry)) (now (s .exit)) ⌝ }
+{
+    if cells::barred(s, b) {
+        return;
+    }
+    let mut w = !cells::outsides(s);
+    while w != 0 {
+        pair_at(s, cells::lowest(w), b, t);
+        w = cells::rest(w);
+    }
 }
 
 // All pairs of jobs.
-pub fn pairs(s: State, steps: &[u16], hits: &[u32]) -> State
-    requires { ⌜ (length (now steps) ≡ 24) × (length (now hits) ≡ 24) ⌝ }
-    ensures { λ r. ⌜ Prunes (Tabled (now (steps .entry)) (now (hits .entry))) s r ⌝ }
+pub fn pairs(s: &mut State, t: &Tables)
+    ensures { λ _. ⌜ Prunes (Lent (now (t .entry))) (now (s .entry)) (now (s .exit)) ⌝ }
 {
-    let mut t = s;
     for b in 0..24 {
-        if !has(t.barred, b) {
-            t = pairs_at(t, b, steps, hits);
-        }
+        pairs_at(s, b, t);
     }
-    t
-}
-
-// The jobs of v are over before b.
-fn put_sures(s: State, b: usize, v: u32) -> State
-    requires { ⌜ b < 24 ⌝ }
-    ensures { λ r. ⌜ PutSures s b v r ⌝ }
-{
-    let mut t = s;
-    let w = t.sure[b];
-    t.sure[b] = w | v;
-    t
 }
 
 // m is inside and over before b: what is over before m is over before b.
-fn through(s: State, m: usize, b: usize) -> State
-    requires { ⌜ (m < 24) × (b < 24) ⌝ }
-    ensures { λ r. ⌜ Prunes Any s r ⌝ }
+fn through(s: &mut State, m: usize, b: usize)
+    requires { ⌜ b < 24 ⌝ }
+    ensures { λ _. ⌜ Prunes Any (now (s .entry)) (now (s .exit)) ⌝ }
 {
-    let w = s.sure[b];
-    if !has(w, m) {
-        return s;
+    if 24 <= m {
+        return;
     }
-    if !has(s.inside, m) {
-        return s;
+    if !cells::sure(s, m, b) {
+        return;
     }
-    let v = s.sure[m];
-    put_sures(s, b, v)
+    if !cells::inside(s, m) {
+        return;
+    }
+    let v = cells::row_sure(s, m);
+    cells::put_sures(s, b, v);
 }
 
 // All that is over before b by way of another job.
-fn through_all(s: State, b: usize) -> State
+fn through_all(s: &mut State, b: usize)
     requires { ⌜ b < 24 ⌝ }
-    ensures { λ r. ⌜ Prunes Any s r ⌝ }
+    ensures { λ _. ⌜ Prunes Any (now (s .entry)) (now (s .exit)) ⌝ }
 {
-    let mut t = s;
-    for m in 0..24 {
-        if has(t.inside, m) {
-            t = through(t, m, b);
-        }
+    let mut w = cells::insides(s) & cells::row_sure(s, b);
+    while w != 0 {
+        through(s, cells::lowest(w), b);
+        w = cells::rest(w);
     }
-    t
 }
 
 // A job whose window is empty is out.
-fn shut(s: State, j: usize) -> State
+fn shut(s: &mut State, j: usize)
     requires { ⌜ j < 24 ⌝ }
-    ensures { λ r. ⌜ Prunes Any s r ⌝ }
+    ensures { λ _. ⌜ Prunes Any (now (s .entry)) (now (s .exit)) ⌝ }
 {
-    if s.hi[j] < s.lo[j] {
-        return put_barred(s, j);
+    if cells::hi(s, j) < cells::lo(s, j) {
+        cells::put_barred(s, j);
     }
-    s
+}
+
+// Chains and window of a job that is not out.
+fn chain(s: &mut State, b: usize)
+    requires { ⌜ b < 24 ⌝ }
+    ensures { λ _. ⌜ Prunes Any (now (s .entry)) (now (s .exit)) ⌝ }
+{
+    if cells::barred(s, b) {
+        return;
+    }
+    through_all(s, b);
+    shut(s, b);
 }
 
 // Chains and windows of every job.
-pub fn chains(s: State) -> State
-    ensures { λ r. ⌜ Prunes Any s r ⌝ }
+pub fn chains(s: &mut State)
+    ensures { λ _. ⌜ Prunes Any (now (s .entry)) (now (s .exit)) ⌝ }
 {
-    let mut t = s;
     for b in 0..24 {
-        if !has(t.barred, b) {
-            t = shut(through_all(t, b), b);
-        }
+        chain(s, b);
     }
-    t
 }
 
 // Some job is both inside and barred: no plan is left.
-pub fn broken(s: State) -> bool
-    ensures { λ r. ⌜ (r ≡ true → (P : Search) → Dead P (view s)) ⌝ }
+pub fn broken(s: &State) -> bool
+    ensures { λ r. ⌜ (r ≡ true → (P : Search) → Dead P (view (now (s .entry)))) ⌝ }
 {
-    (s.inside & s.barred) != 0
+    (cells::insides(s) & cells::outsides(s)) != 0
 }

@@ -1,98 +1,70 @@
 -- Laws of the planner.
 -- Assumes nothing.
 use mathlib.Core.Path.{_≡_, refl, sym, subst, _∙_}
-use mathlib.Core.Logic.{inl, inr, ⊎-elim}
-use mathlib.Core.Bool.{true, false, true≢false, false≢true}
+use mathlib.Core.Bool.{Bool, true, false, true≢false, false≢true}
 use mathlib.Core.List.{List}
 use Prim.Native.Nat.{ℕ, _+_, _≤_, _<_}
 use native.Mathlib.Numerals.{add-one}
-use lib.Dec.{eqb, eqb→eq, T-not, not-T, T}
-use borrow.Author.Tests.{eq-eqb}
-use native.Mathlib.Nat.{le-refl}
 use native.Mathlib.Omega.{arith}
-use lib.ListN.{length, getD}
-use lib.Seq.{getD-set-same}
-use Rattle.flaws.specs.declared.Ask.{Ask}
+use lib.Dec.{eqb, eqb→eq, T-not, not-T}
+use borrow.Author.Tests.{eq-eqb}
 use Rattle.rules.specs.Plans.{Plan, inPlan}
-use Rattle.rules.specs.Table.{InOrder}
-use Rattle.states.specs.State.{Search, Has, Fits, More}
-use Rattle.states.proofs.Keep.{stays-back, more-trans, fits-more}
-use Rattle.orders.specs.declared.State.{State}
-use Rattle.search.specs.declared.Answer.{Answer}
-use Rattle.orders.specs.View.{view, PutInside, PutBarred, PutHi, PutLo}
-use Rattle.search.specs.Leaf.{planOf, Answers}
-use Rattle.flaws.specs.Flaw.{Lent}
-use Rattle.orders.proofs.Changes.{at-set}
-use Rattle.search.proofs.Repairs.{more-inside, more-barred, fits-inside, fits-barred, new-inside, new-barred}
-use Rattle.planner.specs.Planner.{Begins, Sooner, Without, Lowered, LowerOk, RootOk, FirstOf}
+use Rattle.states.specs.State.{Search, Has}
+use Rattle.states.proofs.Keep.{more-trans, plans-back}
 use Rattle.states.proofs.Firsts as firsts
+use Rattle.cells.specs.View.{ins, outs, los, his, view, Puts, PutsBit, IsIn, IsOut, From, Till}
+use Rattle.cells.proofs.Changes.{new-bit, new-word, old-word}
+use Rattle.lent.specs.Lent.{Lent, countOf}
+use Rattle.orders.specs.Order.{Tills}
+use Rattle.leaves.specs.Leaf.{planOf, Answers}
+use Rattle.search.specs.Search.{Some}
+use Rattle.planner.specs.Planner.{Begins, Tells, Lacks, Earlier, Lowered, LowerOk, Fixed, RootOk, FirstOf}
 
-pub more-hi : {s r : State} {j v : ℕ} → PutHi s j v r → v ≤ getD (s .hi) j 0 → More (view s) (view r)
-more-hi {s} {r} {j} {v} d le = let l : j < length (s .hi) = d .room in
-    rw (d .is) (record { inside = λ i x. x; barred = λ i x. x; sure = λ a b x. x; never = λ a b x. x; lo = λ i. le-refl _; hi = λ i. ⊎-elim (λ e. rw (e .1, e .0) le) (λ e. rw e (le-refl _)) (at-set (s .hi) j v i l) })
+-- ── one question ──
 
-pub fits-hi : {s r : State} {j v : ℕ} (P : Search) (Q : Plan) → Fits P Q (view s) → PutHi s j v r → Q j ≤ v → Fits P Q (view r)
-fits-hi {s} {r} {j} {v} P Q f d h = let l : j < length (s .hi) = d .room in
-    rw (d .is) (fits-more f (record { inside = λ i x. inl x; barred = λ i x. inl x; sure = λ a b x. inl x; never = λ a b x. inl x; lo = λ i. inl (le-refl _); hi = λ i. ⊎-elim (λ e. inr (λ k. rw (e .1, e .0) h)) (λ e. inl (rw e (le-refl _))) (at-set (s .hi) j v i l) }))
-
-pub new-hi : {s r : State} {j v : ℕ} → PutHi s j v r → view r .hi j ≡ v
-new-hi {s} {r} {j} {v} d = rw (d .is) (getD-set-same (s .hi) j v 0 (d .room))
-
-pub more-lo : {s r : State} {j v : ℕ} → PutLo s j v r → getD (s .lo) j 0 ≤ v → More (view s) (view r)
-more-lo {s} {r} {j} {v} d le = let l : j < length (s .lo) = d .room in
-    rw (d .is) (record { inside = λ i x. x; barred = λ i x. x; sure = λ a b x. x; never = λ a b x. x; hi = λ i. le-refl _; lo = λ i. ⊎-elim (λ e. rw (e .1, e .0) le) (λ e. rw e (le-refl _)) (at-set (s .lo) j v i l) })
-
-pub fits-lo : {s r : State} {j v : ℕ} (P : Search) (Q : Plan) → Fits P Q (view s) → PutLo s j v r → v ≤ Q j → Fits P Q (view r)
-fits-lo {s} {r} {j} {v} P Q f d h = let l : j < length (s .lo) = d .room in
-    rw (d .is) (fits-more f (record { inside = λ i x. inl x; barred = λ i x. inl x; sure = λ a b x. inl x; never = λ a b x. inl x; hi = λ i. inl (le-refl _); lo = λ i. ⊎-elim (λ e. inr (λ k. rw (e .1, e .0) h)) (λ e. inl (rw e (le-refl _))) (at-set (s .lo) j v i l) }))
-
-pub inside-lo : {s r : State} {j : ℕ} → PutInside s j r → getD (r .lo) j 0 ≡ getD (s .lo) j 0
-inside-lo d = rw (d .is) refl
-
-pub inside-hi : {s r : State} {j : ℕ} → PutInside s j r → getD (r .hi) j 0 ≡ getD (s .hi) j 0
-inside-hi d = rw (d .is) refl
-
-pub lo-hi : {s r : State} {j v : ℕ} → PutLo s j v r → getD (r .hi) j 0 ≡ getD (s .hi) j 0
-lo-hi d = rw (d .is) refl
-
-pub hi-lo : {s r : State} {j v : ℕ} → PutHi s j v r → getD (r .lo) j 0 ≡ getD (s .lo) j 0
-hi-lo d = rw (d .is) refl
-
-pub new-lo : {s r : State} {j v : ℕ} → PutLo s j v r → getD (r .lo) j 0 ≡ v
-new-lo {s} {r} {j} {v} d = rw (d .is) (getD-set-same (s .lo) j v 0 (d .room))
-
-module _ {Ok : Search → Type 0} {base : State} {k : ℕ} where
-  pub without-is : {t : State} {r : Answer} → PutBarred base k t → Answers Ok t r → Without Ok base k r
-  without-is {t} {r} d a = record {
-    found = λ e P o. (let z = a .found e P o in record { good = z .good; stays = stays-back (planOf (r .starts)) (more-barred k d) (z .stays) });
-    out = λ e P o. a .found e P o .stays .barred k (new-barred k d);
-    none = λ e P o Q l n. a .none e P o Q (record { good = l .good; fits = fits-barred P Q (l .fits) k d n });
+module _ {L base : List ℕ} {k : ℕ} where
+  pub without-is : {t old new : List ℕ} {r : Bool} → PutsBit (IsOut k) outs k base t → Answers (Lent L) t old new r → Tells (Lent L) base (Lacks k) old new r
+  without-is d a = record {
+    plan = λ e P l. plans-back (d .more) (a .plan e P l);
+    fine = λ e P l. a .plan e P l .stays .barred k (new-bit outs k d);
+    size = a .size;
+    none = λ e P l Q v n. a .none e P l Q (record { good = v .good; fits = d .fits P Q (v .fits) n });
+    same = a .same;
   }
 
-  pub sooner-zero : {t : ℕ} {q : List ℕ} → t ≡ 0 → Sooner Ok base k t (record { found = false; starts = q })
-  sooner-zero e = record { found = λ x. absurd (false≢true x); there = λ x. absurd (false≢true x); less = λ x. absurd (false≢true x); none = λ x P o Q l i h. omega arith }
-
-  pub sooner-is : {v : State} {r : Answer} (t : ℕ) → More (view base) (view v) → T (view v .inside k) → view v .hi k < t
-      → ((P : Search) (Q : Plan) → Fits P Q (view base) → Has P Q k → Q k < t → Fits P Q (view v)) → Answers Ok v r → Sooner Ok base k t r
-  sooner-is {v} {r} t m i h f a = record {
-    found = λ e P o. (let z = a .found e P o in record { good = z .good; stays = stays-back (planOf (r .starts)) m (z .stays) });
-    there = λ e P o. a .found e P o .stays .inside k i;
-    less = λ e P o. (let z = a .found e P o .stays in omega (arith, z .hi k (z .inside k i)));
-    none = λ e P o Q l n x. a .none e P o Q (record { good = l .good; fits = f P Q (l .fits) n x });
+  pub sooner-zero : {t : ℕ} {old : List ℕ} → t ≡ 0 → Tells (Lent L) base (Earlier k t) old old false
+  sooner-zero z = record {
+    plan = λ e. absurd (false≢true e);
+    fine = λ e. absurd (false≢true e);
+    size = λ e. absurd (false≢true e);
+    none = λ e P l Q v h. omega (arith, h .1);
+    same = λ e. refl;
   }
 
-  pub sooner-in : {u : State} {r : Answer} (t : ℕ) → PutInside base k u → view u .hi k < t → Answers Ok u r → Sooner Ok base k t r
-  sooner-in t d h a = sooner-is t (more-inside k d) (new-inside k d) h (λ P Q f n x. fits-inside P Q f k d n) a
+  pub sooner-is : {t x : ℕ} {u w old new : List ℕ} {r : Bool} → PutsBit (IsIn k) ins k base u → Tills u k x w → x + 1 ≡ t → Answers (Lent L) w old new r → Tells (Lent L) base (Earlier k t) old new r
+  sooner-is {t} {x} d h z a =
+      let m = more-trans (d .more) (h .says .more) in
+      let i = h .says .more .inside k (new-bit ins k d) in
+      record {
+        plan = λ e P l. plans-back m (a .plan e P l);
+        fine = λ e P l. (let y = a .plan e P l .stays in let j = y .inside k i in (j, omega (arith, y .hi k j, h .within)));
+        size = a .size;
+        none = λ e P l Q v n. a .none e P l Q (record { good = v .good; fits = h .says .fits P Q (d .fits P Q (v .fits) (n .0)) (λ j. omega (arith, n .1)) });
+        same = a .same;
+      }
 
-  pub sooner-hi : {u v : State} {r : Answer} (t x : ℕ) → PutInside base k u → PutHi u k x v → x + 1 ≡ t → x ≤ view u .hi k → Answers Ok v r → Sooner Ok base k t r
-  sooner-hi {u} {v} t x d e z le a = sooner-is t (more-trans (more-inside k d) (more-hi e le)) (more-hi e le .inside k (new-inside k d)) (omega (arith, new-hi e))
-      (λ P Q f n y. fits-hi P Q (fits-inside P Q f k d n) e (omega arith)) a
+-- ── job k starts at x ──
 
-pub wf-of : {C A K S H : List ℕ} {ask : Ask} (P : Search) → Lent C A K S H ask P → InOrder (P .problem)
-wf-of P o = o .known .wf
+pub fixed : {s u w r : List ℕ} {k x : ℕ} → PutsBit (IsIn k) ins k s u → Puts (From k x) (los k) x u w → Puts (Till k x) (his k) x w r → Fixed s k x r
+fixed {k = k} {x} d e h = record {
+  more = more-trans (d .more) (more-trans (e .more) (h .more));
+  inside = h .more .inside k (e .more .inside k (new-bit ins k d));
+  lo = old-word h (los k) (λ z. omega arith) ∙ new-word e;
+  hi = new-word h;
+  keep = λ P Q f i z. h .fits P Q (e .fits P Q (d .fits P Q f i) (λ j. omega arith)) (λ j. omega arith);
+}
 
-pub count-of : {C A K S H : List ℕ} {ask : Ask} (P : Search) → Lent C A K S H ask P → P .problem .count ≡ ask .count
-count-of P o = o .known .count-is
+-- ── job by job ──
 
 pub out-of : (k : ℕ) (q : List ℕ) → planOf q k ≡ 65535 → (P : Search) → Has P (planOf q) k → ⊥
 unfolding inPlan
@@ -102,46 +74,61 @@ in-of : (k : ℕ) (q : List ℕ) → (planOf q k ≡ 65535 → ⊥) → (P : Sea
 unfolding inPlan
 in-of k q e P l = record { below = l; chosen = not-T (eqb (planOf q k) 65535) (λ h. e (eqb→eq (planOf q k) 65535 h)) }
 
-module _ (Ok : Search → Type 0) (wf : (P : Search) → Ok P → InOrder (P .problem)) (n : ℕ) (cnt : (P : Search) → Ok P → P .problem .count ≡ n) (base : State) (k : ℕ) where
-  pub low-next : {q : List ℕ} {t : ℕ} {r : Answer} → LowerOk Ok base k q → Sooner Ok base k t r → r .found ≡ true → LowerOk Ok base k (r .starts)
-  low-next {q} {t} {r} b d e = record {
-    begins = λ P o. (let z = d .found e P o in firsts.change P (wf P o) k (view base) (planOf q) (b .begins P o) (planOf (r .starts)) (z .good) (z .stays));
-    there = d .there e;
+module _ {L base : List ℕ} {k : ℕ} where
+  -- another plan within the base takes the place of the starts
+  begins-next : {X : Search → Plan → Type 0} {q new : List ℕ} {r : Bool} → Begins (Lent L) k base q → Tells (Lent L) base X q new r → r ≡ true → Begins (Lent L) k base new
+  begins-next {q = q} {new} b d e = record {
+    prefix = λ P l. (let z = d .plan e P l in firsts.change P (l .listed .wf) k (view base) (planOf q) (b .prefix P l) (planOf new) (z .good) (z .stays));
+    size = d .size e;
   }
 
-  pub low-done : {q : List ℕ} {t : ℕ} {r : Answer} → LowerOk Ok base k q → Sooner Ok base k t r → r .found ≡ false → planOf q k ≡ t → length q ≡ 24 → Lowered Ok base k q
-  low-done b d e z y = record { size = y; begins = b .begins; there = b .there; least = λ P o Q l i h. d .none e P o Q l i (omega arith) }
+  pub low-next : {t : ℕ} {q new : List ℕ} {r : Bool} → LowerOk (Lent L) base k q → Tells (Lent L) base (Earlier k t) q new r → r ≡ true → LowerOk (Lent L) base k new
+  low-next b d e = record { begins = begins-next (b .begins) d e; there = λ P l. d .fine e P l .0 }
 
-  pub lower-ok : (q : List ℕ) → k < n → (planOf q k ≡ 65535 → ⊥) → Begins Ok k base q → LowerOk Ok base k q
-  lower-ok q l e b = record { begins = b; there = λ P o. in-of k q e P (omega (arith, cnt P o)) }
+  pub low-done : {q new : List ℕ} {r : Bool} → LowerOk (Lent L) base k q → Tells (Lent L) base (Earlier k (planOf q k)) q new r → r ≡ false → Lowered (Lent L) base k new
+  low-done {q} {new} b d e = subst (λ (z : List ℕ). Lowered (Lent L) base k z) (sym (d .same e)) (record { begins = b .begins; there = b .there; least = λ P l Q v h. d .none e P l Q v h })
 
-  pub step-out : (q : List ℕ) {t : State} → k < n → Begins Ok k base q → ((P : Search) → Ok P → Has P (planOf q) k → ⊥) → PutBarred base k t → Begins Ok (k + 1) t q
-  step-out q {t} l b m d P o = rw add-one (firsts.leave P (wf P o) k (view base) (planOf q) (b P o) (omega (arith, cnt P o)) (view t) (more-barred k d) (m P o) (new-barred k d) (λ Q g f x. fits-barred P Q f k d x))
+  -- no plan does without a job that the plan has: it is to start early
+  pub lower-ok : {q new : List ℕ} {r : Bool} → k < countOf L → (planOf q k ≡ 65535 → ⊥) → Begins (Lent L) k base q → Tells (Lent L) base (Lacks k) q new r → r ≡ false → LowerOk (Lent L) base k new
+  lower-ok {q} l n b d e = subst (λ (z : List ℕ). LowerOk (Lent L) base k z) (sym (d .same e)) (record { begins = b; there = λ P o. in-of k q n P (omega (arith, o .listed .count)) })
 
-  pub step-change : (q : List ℕ) {t : State} {r : Answer} → k < n → Begins Ok k base q → Without Ok base k r → r .found ≡ true → PutBarred base k t → Begins Ok (k + 1) t (r .starts)
-  step-change q {t} {r} l b w e d = step-out (r .starts) l (λ P o. (let z = w .found e P o in firsts.change P (wf P o) k (view base) (planOf q) (b P o) (planOf (r .starts)) (z .good) (z .stays))) (w .out e) d
-
-  pub step-in : {q : List ℕ} {r : Answer} {u w x : State} (v : ℕ) → k < n → Lowered Ok base k q → Without Ok base k r → r .found ≡ false → PutInside base k u → PutLo u k v w → PutHi w k v x → planOf q k ≡ v → Begins Ok (k + 1) x q
-  step-in {q} {r} {u} {w} {x} v l g z e d1 d2 d3 m P o =
-      let pre = g .begins P o in
-      let i = g .there P o in
+  -- the window of a job that the plan has holds its start
+  pub in-window : {q : List ℕ} → Some (Lent L) → Lowered (Lent L) base k q → (view base .lo k ≤ planOf q k) × (planOf q k ≤ view base .hi k)
+  in-window {q} (P, o) g =
+      let pre = g .begins .prefix P o in
       let st = pre .all (planOf q) (pre .good) (λ j h. refl) .stays in
-      let mu : More (view base) (view u) = more-inside k d1 in
-      let lo : getD (u .lo) k 0 ≤ v = omega (arith, st .lo k i, inside-lo d1) in
-      let hi : v ≤ getD (w .hi) k 0 = omega (arith, st .hi k i, inside-hi d1, lo-hi d2) in
-      let mw : More (view u) (view w) = more-lo d2 lo in
-      let mx : More (view w) (view x) = more-hi d3 hi in
-      rw add-one (firsts.fix P (wf P o) k (view base) (planOf q) pre (omega (arith, cnt P o)) (view x) (more-trans mu (more-trans mw mx)) i
-      (mx .inside k (mw .inside k (new-inside k d1))) (hi-lo d3 ∙ (new-lo d2 ∙ sym m)) (new-hi d3 ∙ sym m)
-      (λ Q h f j y. fits-hi P Q (fits-lo P Q (fits-inside P Q f k d1 j) d2 (omega arith)) d3 (omega arith))
-      (λ Q h y. z .none e P o Q h y) (λ Q h y s. g .least P o Q h y s))
+      (st .lo k (g .there P o), st .hi k (g .there P o))
 
-module _ (Ok : Search → Type 0) (wf : (P : Search) → Ok P → InOrder (P .problem)) (n : ℕ) (cnt : (P : Search) → Ok P → P .problem .count ≡ n) (root : State) (fr : RootOk Ok root) where
-  pub first-begin : {r : Answer} → Answers Ok root r → r .found ≡ true → Begins Ok 0 root (r .starts)
-  first-begin {r} a e P o = firsts.begin P (wf P o) (view root) (planOf (r .starts)) (a .found e P o .good) (fr P o)
+  pub step-out : {q t : List ℕ} → k < countOf L → Begins (Lent L) k base q → ((P : Search) → Lent L P → Has P (planOf q) k → ⊥) → PutsBit (IsOut k) outs k base t → Begins (Lent L) (k + 1) t q
+  step-out {q} {t} l b m d = record {
+    prefix = λ P o. rw add-one (firsts.leave P (o .listed .wf) k (view base) (planOf q) (b .prefix P o) (omega (arith, o .listed .count)) (view t) (d .more) (m P o) (new-bit outs k d) (λ Q g f x. d .fits P Q f x));
+    size = b .size;
+  }
 
-  pub first-none : {r : Answer} → Answers Ok root r → r .found ≡ false → FirstOf Ok r
-  first-none a e = record { found = λ x. absurd (true≢false (sym x ∙ e)); none = λ x P o Q g. a .none e P o Q (record { good = g; fits = fr P o Q g }) }
+  pub step-change : {q t new : List ℕ} {r : Bool} → k < countOf L → Begins (Lent L) k base q → Tells (Lent L) base (Lacks k) q new r → r ≡ true → PutsBit (IsOut k) outs k base t → Begins (Lent L) (k + 1) t new
+  step-change l b w e d = step-out l (begins-next b w e) (w .fine e) d
 
-  pub first-done : (base : State) (q : List ℕ) → Begins Ok n base q → FirstOf Ok (record { found = true; starts = q })
-  first-done base q b = record { found = λ x P o. firsts.finished P (wf P o) (view base) (planOf q) (subst (λ (y : ℕ). firsts.Prefix P y (view base) (planOf q)) (sym (cnt P o)) (b P o)); none = λ x. absurd (true≢false x) }
+  pub step-in : {q old new t : List ℕ} {r : Bool} (v : ℕ) → k < countOf L → Lowered (Lent L) base k q → Tells (Lent L) base (Lacks k) old new r → r ≡ false → Fixed base k v t → planOf q k ≡ v → Begins (Lent L) (k + 1) t q
+  step-in {q} {t = t} v l g z e d m = record {
+    prefix = λ P o. rw add-one (firsts.fix P (o .listed .wf) k (view base) (planOf q) (g .begins .prefix P o) (omega (arith, o .listed .count)) (view t) (d .more) (g .there P o)
+        (d .inside) (d .lo ∙ sym m) (d .hi ∙ sym m)
+        (λ Q h f j y. d .keep P Q f j (y ∙ m))
+        (λ Q h y. z .none e P o Q h y) (λ Q h y s. g .least P o Q h (y, s)));
+    size = g .begins .size;
+  }
+
+-- ── the whole ──
+
+module _ {L root : List ℕ} (fr : RootOk (Lent L) root) {old new : List ℕ} {r : Bool} (a : Answers (Lent L) root old new r) where
+  pub first-begin : r ≡ true → Begins (Lent L) 0 root new
+  first-begin e = record { prefix = λ P o. firsts.begin P (o .listed .wf) (view root) (planOf new) (a .plan e P o .good) (fr P o); size = a .size e }
+
+  pub first-none : r ≡ false → FirstOf (Lent L) new false
+  first-none e = record { plan = λ x. absurd (false≢true x); size = λ x. absurd (false≢true x); none = λ x P o Q g. a .none e P o Q (record { good = g; fits = fr P o Q g }) }
+
+pub first-done : {L base q : List ℕ} {n : ℕ} → n ≡ countOf L → Begins (Lent L) n base q → FirstOf (Lent L) q true
+first-done {base = base} {q} z b = record {
+  plan = λ x P o. firsts.finished P (o .listed .wf) (view base) (planOf q) (subst (λ (y : ℕ). firsts.Prefix P y (view base) (planOf q)) (z ∙ sym (o .listed .count)) (b .prefix P o));
+  size = λ x. b .size;
+  none = λ x. absurd (true≢false x);
+}

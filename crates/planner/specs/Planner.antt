@@ -1,58 +1,66 @@
 -- What the planner's contracts cite.
 -- Assumes nothing.
 use mathlib.Core.Path.{_≡_}
-use mathlib.Core.Bool.{true, false}
+use mathlib.Core.Bool.{Bool, true, false}
 use mathlib.Core.List.{List}
-use Prim.Native.Nat.{ℕ, _+_, _<_}
+use Prim.Native.Nat.{ℕ, _<_}
+use lib.Dec.{T}
 use lib.ListN.{length}
 use Rattle.rules.specs.Plans.{Plan}
-use Rattle.states.specs.State.{Search, Has, Good, Stays, Fits, Left}
 use Rattle.rules.specs.Order.{First}
+use Rattle.states.specs.State.{Search, Has, Good, Fits, Left, More, Plans}
 use Rattle.states.proofs.Firsts.{Prefix}
-use Rattle.orders.specs.declared.State.{State}
-use Rattle.search.specs.declared.Answer.{Answer}
-use Rattle.orders.specs.View.{view}
-use Rattle.search.specs.Leaf.{planOf}
-use Rattle.planner.specs.declared.Step.{Step}
+use Rattle.cells.specs.View.{view}
+use Rattle.leaves.specs.Leaf.{planOf}
 
-abbrev pub Begins : (Search → Type 0) → ℕ → State → List ℕ → Type 0
-Begins Ok k base f = (P : Search) → Ok P → Prefix P k (view base) (planOf f)
+-- the jobs below k are settled, and the starts are a plan that begins so
+pub record Begins (Ok : Search → Type 0) (k : ℕ) (base starts : List ℕ) : Type 0 where
+  pub prefix : (P : Search) → Ok P → Prefix P k (view base) (planOf starts)
+  pub size : length starts ≡ 24
 
 abbrev pub HasIn : (Search → Type 0) → ℕ → List ℕ → Type 0
-HasIn Ok k f = (P : Search) → Ok P → Has P (planOf f) k
+HasIn Ok k starts = (P : Search) → Ok P → Has P (planOf starts) k
 
-pub record Found (P : Search) (base : State) (q : Plan) : Type 0 where
-  pub good : Good P q
-  pub stays : Stays P q (view base)
+-- a plan within the base of which X is so; or there is none, and the starts are as they were
+pub record Tells (Ok : Search → Type 0) (base : List ℕ) (X : Search → Plan → Type 0) (old new : List ℕ) (found : Bool) : Type 0 where
+  pub plan : found ≡ true → (P : Search) → Ok P → Plans P (view base) (planOf new)
+  pub fine : found ≡ true → (P : Search) → Ok P → X P (planOf new)
+  pub size : found ≡ true → length new ≡ 24
+  pub none : found ≡ false → (P : Search) → Ok P → (Q : Plan) → Left P (view base) Q → X P Q → ⊥
+  pub same : found ≡ false → new ≡ old
 
-pub record Sooner (Ok : Search → Type 0) (base : State) (k t : ℕ) (r : Answer) : Type 0 where
-  pub found : r .found ≡ true → (P : Search) → Ok P → Found P base (planOf (r .starts))
-  pub there : r .found ≡ true → HasIn Ok k (r .starts)
-  pub less : r .found ≡ true → (P : Search) → Ok P → planOf (r .starts) k < t
-  pub none : r .found ≡ false → (P : Search) → Ok P → (Q : Plan) → Left P (view base) Q → Has P Q k → Q k < t → ⊥
+-- without job k
+abbrev pub Lacks : ℕ → Search → Plan → Type 0
+Lacks k P Q = Has P Q k → ⊥
 
-pub record Without (Ok : Search → Type 0) (base : State) (k : ℕ) (r : Answer) : Type 0 where
-  pub found : r .found ≡ true → (P : Search) → Ok P → Found P base (planOf (r .starts))
-  pub out : r .found ≡ true → (P : Search) → Ok P → Has P (planOf (r .starts)) k → ⊥
-  pub none : r .found ≡ false → (P : Search) → Ok P → (Q : Plan) → Left P (view base) Q → (Has P Q k → ⊥) → ⊥
+-- with job k before t
+abbrev pub Earlier : (k t : ℕ) → Search → Plan → Type 0
+Earlier k t P Q = Has P Q k × (Q k < t)
 
-pub record Lowered (Ok : Search → Type 0) (base : State) (k : ℕ) (q : List ℕ) : Type 0 where
-  pub begins : Begins Ok k base q
-  pub there : HasIn Ok k q
-  pub size : length q ≡ 24
-  pub least : (P : Search) → Ok P → (Q : Plan) → Left P (view base) Q → Has P Q k → Q k < planOf q k → ⊥
+-- job k starts as early as it can
+pub record Lowered (Ok : Search → Type 0) (base : List ℕ) (k : ℕ) (starts : List ℕ) : Type 0 where
+  pub begins : Begins Ok k base starts
+  pub there : HasIn Ok k starts
+  pub least : (P : Search) → Ok P → (Q : Plan) → Left P (view base) Q → Earlier k (planOf starts k) P Q → ⊥
 
-abbrev pub Stepped : (Search → Type 0) → ℕ → Step → Type 0
-Stepped Ok k r = Begins Ok (k + 1) (r .base) (r .starts)
+pub record LowerOk (Ok : Search → Type 0) (base : List ℕ) (k : ℕ) (starts : List ℕ) : Type 0 where
+  pub begins : Begins Ok k base starts
+  pub there : HasIn Ok k starts
 
-pub record LowerOk (Ok : Search → Type 0) (base : State) (k : ℕ) (q : List ℕ) : Type 0 where
-  pub begins : Begins Ok k base q
-  pub there : HasIn Ok k q
+-- job k is inside and starts at x
+pub record Fixed (s : List ℕ) (k x : ℕ) (r : List ℕ) : Type 0 where
+  pub more : More (view s) (view r)
+  pub inside : T (view r .inside k)
+  pub lo : view r .lo k ≡ x
+  pub hi : view r .hi k ≡ x
+  pub keep : (P : Search) (Q : Plan) → Fits P Q (view s) → Has P Q k → Q k ≡ x → Fits P Q (view r)
 
-abbrev pub RootOk : (Search → Type 0) → State → Type 0
+-- every valid plan fits the state
+abbrev pub RootOk : (Search → Type 0) → List ℕ → Type 0
 RootOk Ok root = (P : Search) → Ok P → (Q : Plan) → Good P Q → Fits P Q (view root)
 
 -- the first valid plan, or that there is none
-pub record FirstOf (Ok : Search → Type 0) (r : Answer) : Type 0 where
-  pub found : r .found ≡ true → (P : Search) → Ok P → First (P .problem) (P .bound) (planOf (r .starts))
-  pub none : r .found ≡ false → (P : Search) → Ok P → (Q : Plan) → Good P Q → ⊥
+pub record FirstOf (Ok : Search → Type 0) (starts : List ℕ) (found : Bool) : Type 0 where
+  pub plan : found ≡ true → (P : Search) → Ok P → First (P .problem) (P .bound) (planOf starts)
+  pub size : found ≡ true → length starts ≡ 24
+  pub none : found ≡ false → (P : Search) → Ok P → (Q : Plan) → Good P Q → ⊥

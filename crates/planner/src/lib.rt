@@ -1,159 +1,99 @@
 // The first plan, job by job.
 ghost use mathlib.Core.Path.{_≡_};
-ghost use Prim.Native.Nat.{ℕ, _+_, _≤_, _<_};
-ghost use lib.ListN.{length, getD};
-ghost use Rattle.states.specs.State.{Search};
-ghost use Rattle.flaws.specs.Flaw.{Sizes, Lent};
-ghost use Rattle.search.specs.Leaf.{Some, planOf};
-ghost use Rattle.planner.specs.Planner.{Begins, Sooner, Without, Lowered, Stepped, HasIn, LowerOk, RootOk, FirstOf};
-use orders::State;
-use search::Answer;
+ghost use Prim.Native.Nat.{_+_, _≤_, _<_};
+ghost use lib.ListN.{length};
+ghost use Rattle.cells.specs.View.{view};
+ghost use Rattle.lent.specs.Lent.{Lent, countOf};
+ghost use Rattle.leaves.specs.Leaf.{planOf};
+ghost use Rattle.search.specs.Search.{Some};
+ghost use Rattle.planner.specs.Planner.{Begins, Tells, Lacks, Earlier, Lowered, LowerOk, Fixed, RootOk, FirstOf};
+use cells::State;
+use lent::Tables;
 
-pub struct Step {
-    pub base: State,
-    pub starts: [u16; 24],
+// The start of job k.
+fn start_of(out: &[u16; 24], k: usize) -> u16
+    requires { ⌜ (k < 24) × (length (now out) ≡ 24) ⌝ }
+    ensures { λ r. ⌜ r ≡ planOf (now (out .entry)) k ⌝ }
+{
+    out[k]
 }
 
 // A plan without job k.
-fn try_without(
-    base: State,
-    k: usize,
-    ask: flaws::Ask,
-    conds: &[u64],
-    adders: &[u32],
-    killers: &[u32],
-    steps: &[u16],
-    hits: &[u32],
-) -> Answer
-    requires { ⌜ (k < 24) × (Sizes (now conds) (now adders) (now killers) (now steps) (now hits) × Some (Lent (now conds) (now adders) (now killers) (now steps) (now hits) ask)) ⌝ }
-    ensures { λ r. ⌜ Without (Lent (now (conds .entry)) (now (adders .entry)) (now (killers .entry)) (now (steps .entry)) (now (hits .entry)) ask) base k r ⌝ }
+fn try_without(base: &State, k: usize, t: &Tables, out: &mut [u16; 24]) -> bool
+    requires { ⌜ (k < 24) × Some (Lent (now t)) ⌝ }
+    ensures { λ r. ⌜ Tells (Lent (now (t .entry))) (now (base .entry)) (Lacks k) (now (out .entry)) (now (out .exit)) r ⌝ }
 {
-    let t = orders::put_barred(base, k);
-    search::find_plan(t, ask, conds, adders, killers, steps, hits)
+    let mut s = *base;
+    cells::put_barred(&mut s, k);
+    search::find_plan(&mut s, t, out)
 }
 
-// A plan with job k before t.
-fn try_sooner(
-    base: State,
-    k: usize,
-    t: u16,
-    ask: flaws::Ask,
-    conds: &[u64],
-    adders: &[u32],
-    killers: &[u32],
-    steps: &[u16],
-    hits: &[u32],
-) -> Answer
-    requires { ⌜ (k < 24) × (Sizes (now conds) (now adders) (now killers) (now steps) (now hits) × Some (Lent (now conds) (now adders) (now killers) (now steps) (now hits) ask)) ⌝ }
-    ensures { λ r. ⌜ Sooner (Lent (now (conds .entry)) (now (adders .entry)) (now (killers .entry)) (now (steps .entry)) (now (hits .entry)) ask) base k t r ⌝ }
+// A plan with job k sooner than it is.
+fn try_sooner(base: &State, k: usize, t: &Tables, out: &mut [u16; 24]) -> bool
+    requires { ⌜ (k < 24) × (length (now out) ≡ 24) × Some (Lent (now t)) ⌝ }
+    ensures { λ r. ⌜ Tells (Lent (now (t .entry))) (now (base .entry)) (Earlier k (planOf (now (out .entry)) k)) (now (out .entry)) (now (out .exit)) r ⌝ }
 {
-    if t == 0 {
-        return Answer {
-            found: false,
-            starts: [0u16; 24],
-        };
+    let x = start_of(out, k);
+    if x == 0 {
+        return false;
     }
-    let x = t - 1;
-    let u = orders::put_inside(base, k);
-    if u.hi[k] <= x {
-        return search::find_plan(u, ask, conds, adders, killers, steps, hits);
-    }
-    let v = orders::put_hi(u, k, x);
-    search::find_plan(v, ask, conds, adders, killers, steps, hits)
+    let mut s = *base;
+    cells::put_inside(&mut s, k);
+    orders::till(&mut s, k, (x as u32) - 1);
+    search::find_plan(&mut s, t, out)
 }
 
 // The earliest start of k.
-fn lower(
-    base: State,
-    k: usize,
-    f: [u16; 24],
-    ask: flaws::Ask,
-    conds: &[u64],
-    adders: &[u32],
-    killers: &[u32],
-    steps: &[u16],
-    hits: &[u32],
-) -> [u16; 24]
-    requires { ⌜ LowerOk (Lent (now conds) (now adders) (now killers) (now steps) (now hits) ask) base k f × ((k < 24) × (Sizes (now conds) (now adders) (now killers) (now steps) (now hits) × Some (Lent (now conds) (now adders) (now killers) (now steps) (now hits) ask))) ⌝ }
-    ensures { λ r. ⌜ Lowered (Lent (now (conds .entry)) (now (adders .entry)) (now (killers .entry)) (now (steps .entry)) (now (hits .entry)) ask) base k r ⌝ }
+fn lower(base: &State, k: usize, t: &Tables, out: &mut [u16; 24])
+    requires { ⌜ LowerOk (Lent (now t)) (now base) k (now out) × (k < 24) × Some (Lent (now t)) ⌝ }
+    ensures { λ _. ⌜ Lowered (Lent (now (t .entry))) (now (base .entry)) k (now (out .exit)) ⌝ }
 {
-    let mut q = f;
     loop {
-        let t = q[k];
-        let a = try_sooner(base, k, t, ask, conds, adders, killers, steps, hits);
-        let ok = a.found;
-        if !ok {
-            return q;
+        if !try_sooner(base, k, t, out) {
+            return;
         }
-        q = a.starts;
     }
+}
+
+// Job k starts at x.
+fn fix(base: &mut State, k: usize, x: u32)
+    requires { ⌜ (k < 24) × (view (now base) .lo k ≤ x) × (x ≤ view (now base) .hi k) ⌝ }
+    ensures { λ _. ⌜ Fixed (now (base .entry)) k x (now (base .exit)) ⌝ }
+{
+    cells::put_inside(base, k);
+    cells::put_lo(base, k, x);
+    cells::put_hi(base, k, x);
 }
 
 // Job k is settled.
-fn settle_job(
-    base: State,
-    k: usize,
-    f: [u16; 24],
-    ask: flaws::Ask,
-    conds: &[u64],
-    adders: &[u32],
-    killers: &[u32],
-    steps: &[u16],
-    hits: &[u32],
-) -> Step
-    requires { ⌜ Begins (Lent (now conds) (now adders) (now killers) (now steps) (now hits) ask) k base f × ((k < 24) × ((k < ask .count) × (Sizes (now conds) (now adders) (now killers) (now steps) (now hits) × Some (Lent (now conds) (now adders) (now killers) (now steps) (now hits) ask)))) ⌝ }
-    ensures { λ r. ⌜ Stepped (Lent (now (conds .entry)) (now (adders .entry)) (now (killers .entry)) (now (steps .entry)) (now (hits .entry)) ask) k r ⌝ }
+fn settle_job(base: &mut State, k: usize, t: &Tables, out: &mut [u16; 24])
+    requires { ⌜ Begins (Lent (now t)) k (now base) (now out) × (k < 24) × (k < countOf (now t)) × Some (Lent (now t)) ⌝ }
+    ensures { λ _. ⌜ Begins (Lent (now (t .entry))) (k + 1) (now (base .exit)) (now (out .exit)) ⌝ }
 {
-    let t = f[k];
-    let b = orders::put_barred(base, k);
-    if t == 65535 {
-        return Step { base: b, starts: f };
+    if start_of(out, k) == 65535 {
+        cells::put_barred(base, k);
+        return;
     }
-    let a = try_without(base, k, ask, conds, adders, killers, steps, hits);
-    let ok = a.found;
-    if ok {
-        let st = a.starts;
-        return Step {
-            base: b,
-            starts: st,
-        };
+    if try_without(base, k, t, out) {
+        cells::put_barred(base, k);
+        return;
     }
-    let q = lower(base, k, f, ask, conds, adders, killers, steps, hits);
-    let v = q[k];
-    let u = orders::put_inside(base, k);
-    let w = orders::put_lo(u, k, v);
-    let x = orders::put_hi(w, k, v);
-    Step { base: x, starts: q }
+    lower(base, k, t, out);
+    fix(base, k, start_of(out, k) as u32);
 }
 
 // The first plan, from a state that every valid plan fits.
-pub fn first(
-    root: State,
-    ask: flaws::Ask,
-    conds: &[u64],
-    adders: &[u32],
-    killers: &[u32],
-    steps: &[u16],
-    hits: &[u32],
-) -> Answer
-    requires { ⌜ RootOk (Lent (now conds) (now adders) (now killers) (now steps) (now hits) ask) root × (Sizes (now conds) (now adders) (now killers) (now steps) (now hits) × Some (Lent (now conds) (now adders) (now killers) (now steps) (now hits) ask)) ⌝ }
-    ensures { λ r. ⌜ FirstOf (Lent (now (conds .entry)) (now (adders .entry)) (now (killers .entry)) (now (steps .entry)) (now (hits .entry)) ask) r ⌝ }
+pub fn first(root: &mut State, t: &Tables, out: &mut [u16; 24]) -> bool
+    requires { ⌜ RootOk (Lent (now t)) (now root) × Some (Lent (now t)) ⌝ }
+    ensures { λ r. ⌜ FirstOf (Lent (now (t .entry))) (now (out .exit)) r ⌝ }
 {
-    let a = search::find_plan(root, ask, conds, adders, killers, steps, hits);
-    let ok = a.found;
-    if !ok {
-        return a;
+    let mut s = *root;
+    if !search::find_plan(&mut s, t, out) {
+        return false;
     }
-    let mut base = root;
-    let mut f = a.starts;
-    let n = ask.count;
+    let n = lent::count(t);
     for k in 0..n {
-        let r = settle_job(base, k, f, ask, conds, adders, killers, steps, hits);
-        base = r.base;
-        f = r.starts;
+        settle_job(root, k, t, out);
     }
-    Answer {
-        found: true,
-        starts: f,
-    }
+    true
 }

@@ -1,7 +1,8 @@
 -- What planning answers, from what the search found.
 -- Assumes nothing.
 use mathlib.Core.Path.{_≡_, refl, sym, ap, _∙_, subst}
-use mathlib.Core.Logic.{inl, inr}
+use mathlib.Core.Logic.{inl, inr, _≢_}
+use mathlib.Core.Bool.{Bool, true}
 use mathlib.Core.List.{List}
 use Prim.Native.Nat.{ℕ, _+_, _≤_, min}
 use native.Mathlib.Omega.{arith}
@@ -23,9 +24,9 @@ use Rattle.tables.specs.Tables.{problem, answer, callChecks, filled, changed, J
 use Rattle.tables.proofs.Laws.{said, changed-old, numbered}
 use Rattle.tables.proofs.Lent.{filled-same}
 use Rattle.tables.proofs.Calls.{call-checks, call-passed, long-enough}
-use Rattle.search.specs.Leaf.{planOf}
+use Rattle.leaves.specs.Leaf.{planOf}
 use Rattle.entries.specs.Entries.{entry}
-use Rattle.planning.specs.Derived.{InReach}
+use Rattle.planning.specs.Derived.{InReach, PlanAt, LeastOf}
 use Rattle.planning.specs.Planning.{planningChecks, Plannable, PlansWithin, BoundsWithin}
 
 pub planning-checks : (l : Loaded) (q : Ask) (room : ℕ) → Checks (planningChecks l q room)
@@ -125,13 +126,13 @@ module _ (l : Loaded) (q : Ask) (xs : List ℕ) where
         leaves = sym (ap (λ (v : Verdict). changed v (filled (λ i. 0) (q .jobs) xs) xs) (goes z (refused 10 0)));
       }
 
-      pub plans-found : {r : Answer} (t : ℕ) (st ys : List ℕ) → t ≡ top l q → length st ≡ 24 → r ≡ answer accepted 0 0 → ys ≡ filled (entry st) (q .jobs) xs → First (problem l q) t (planOf st) → PlansWithin l q xs r ys
-      plans-found {r} t st ys h n e w f = record {
+      pub plans-found : {r : Answer} (t : ℕ) {st ys : List ℕ} {found : Bool} → t ≡ top l q → r ≡ answer accepted 0 0 → ys ≡ filled (entry st) (q .jobs) xs → PlanAt (problem l q) t true st found → found ≡ true → PlansWithin l q xs r ys
+      plans-found {r} t {st} {ys} h e w d y = record {
         v = accepted;
         s = planOf st;
-        planned = λ k. inl (refl, first-up l q (j .order z .order) (j .order z .short) (planOf st) (subst (λ (b : ℕ). First (problem l q) b (planOf st)) h f));
+        planned = λ k. inl (refl, first-up l q (j .order z .order) (j .order z .short) (planOf st) (subst (λ (b : ℕ). First (problem l q) b (planOf st)) h (d .least y refl)));
         says = e ∙ said 0 0 (goes z accepted);
-        leaves = starts-filled st ys n (j .order z .few) w ∙ sym (ap (λ (v : Verdict). changed v (filled (planOf st) (q .jobs) xs) xs) (goes z accepted));
+        leaves = starts-filled st ys (d .size y) (j .order z .few) w ∙ sym (ap (λ (v : Verdict). changed v (filled (planOf st) (q .jobs) xs) xs) (goes z accepted));
       }
 
       pub bounds-none : {r : Answer} (t : ℕ) → t ≡ top l q → r ≡ answer (refused 10 0) 0 65535 → NoPlan (problem l q) t → BoundsWithin l q xs r xs
@@ -144,12 +145,12 @@ module _ (l : Loaded) (q : Ask) (xs : List ℕ) where
         leaves = sym (ap (λ (v : Verdict). changed v (filled (λ i. 0) (q .jobs) xs) xs) (goes z (refused 10 0)));
       }
 
-      pub bounds-found : {r : Answer} (t b : ℕ) (st ys : List ℕ) → t ≡ top l q → length st ≡ 24 → r ≡ answer accepted b 0 → ys ≡ filled (entry st) (q .jobs) xs → LeastBound (problem l q) t b (planOf st) → BoundsWithin l q xs r ys
-      bounds-found {r} t b st ys h n e w f = record {
+      pub bounds-found : {r : Answer} (t : ℕ) {b : ℕ} {st ys : List ℕ} → t ≡ top l q → r ≡ answer accepted b 0 → ys ≡ filled (entry st) (q .jobs) xs → LeastOf (problem l q) t st b → b ≢ 65535 → BoundsWithin l q xs r ys
+      bounds-found {r} t {b} {st} {ys} h e w d y = record {
         v = accepted;
         b = b;
         s = planOf st;
-        bounded = λ k. inl (refl, least-up l q (j .order z .order) (j .order z .short) b (planOf st) (subst (λ (x : ℕ). LeastBound (problem l q) x b (planOf st)) h f));
+        bounded = λ k. inl (refl, least-up l q (j .order z .order) (j .order z .short) b (planOf st) (subst (λ (x : ℕ). LeastBound (problem l q) x b (planOf st)) h (d .found y)));
         says = e ∙ said b 65535 (goes z accepted);
-        leaves = starts-filled st ys n (j .order z .few) w ∙ sym (ap (λ (v : Verdict). changed v (filled (planOf st) (q .jobs) xs) xs) (goes z accepted));
+        leaves = starts-filled st ys (d .size y) (j .order z .few) w ∙ sym (ap (λ (v : Verdict). changed v (filled (planOf st) (q .jobs) xs) xs) (goes z accepted));
       }

@@ -1,194 +1,92 @@
--- Laws of the tables that the search reads, of its first state, and of the loops above it.
+-- Laws of planning at several bounds.
 -- Assumes nothing.
 use mathlib.Core.Path.{_≡_, refl, sym, ap, subst, _∙_}
-use mathlib.Core.Logic.{⊎-elim}
-use mathlib.Core.Bool.{Bool, true, false, not}
+use mathlib.Core.Logic.{inl, inr, ⊎-elim}
+use mathlib.Core.Bool.{Bool, true, false, not, true≢false}
 use mathlib.Core.List.{List}
-use Prim.Native.Nat.{ℕ, _+_, _-_, _≤_, _<_}
+use Prim.Native.Nat.{ℕ, _+_, _≤_, _<_}
+use native.Mathlib.Nat.{le-refl}
 use native.Mathlib.Omega.{arith}
-use lib.Dec.{T, eqb}
 use native.Mathlib.Numerals.{add-one}
-use lib.ListN.{getD, replicate, getD-replicate, length-replicate}
 use native.Mathlib.Decide.{decLt}
-use Rattle.facts.specs.Facts.{has, Decides}
-use Rattle.facts.proofs.Bools.{below-suc, eqb-not, not-eqb, same, says-no, says-test}
-use Rattle.facts.proofs.Sets.{has-zero}
-use Rattle.facts.proofs.Lists.{getD-past}
-use Rattle.rules.specs.Table.{Problem, InOrder, deletes}
+use lib.Dec.{T, eqb}
+use Rattle.facts.proofs.Bools.{below-suc, eqb-not, not-eqb}
+use Rattle.rules.specs.Table.{Problem, InOrder}
 use Rattle.rules.specs.Plans.{Plan, inPlan, Valid}
-use Rattle.rules.specs.Order.{NoPlan}
+use Rattle.rules.specs.Order.{First, LeastBound, NoPlan}
 use Rattle.rules.proofs.Sums.{sum}
 use Rattle.rules.proofs.Orders.{wider}
 use Rattle.rules.proofs.Enough.{narrower}
-use Rattle.reach.specs.Rows.{inRows, FitIn}
-use Rattle.reach.proofs.EDeletes.{fit}
-use Rattle.reach.proofs.Alike.{fit-alike, closed-alike}
-use Rattle.states.specs.State.{Search, Good, Has, Fits, Out, Low, High}
-use Rattle.orders.specs.declared.State.{State}
-use Rattle.orders.specs.View.{view}
-use Rattle.rules.proofs.Early.{Alike, never-early, estimates-alike}
 use Rattle.tables.specs.Tables.{problem}
 use Rattle.tables.specs.declared.Loaded.{Loaded}
 use Rattle.tables.specs.declared.Ask.{Ask}
-use Rattle.entries.specs.Entries.{entry}
-use Rattle.flaws.specs.Flaw.{Lent}
-use Rattle.flaws.specs.declared.Ask.{Ask as Flaws}
-use Rattle.search.specs.Leaf.{Answers}
-use Rattle.search.specs.declared.Answer.{Answer}
+use Rattle.states.specs.State.{Search}
+use Rattle.cells.specs.View.{Sets}
+use Rattle.lent.specs.Lent.{Listed, Lent}
+use Rattle.lent.proofs.Laws.{rebound, rebound-lent}
+use Rattle.leaves.specs.Leaf.{planOf, Answers}
+use Rattle.search.specs.Search.{Some}
 use Rattle.planner.specs.Planner.{FirstOf}
-use Rattle.planning.specs.Derived.{RootJob, Rooted, ByFact, AllHit, Begins, Ready, FitsAll, From, PlanAt, Later, LastEnd}
+use Rattle.outset.specs.Outset.{FitsAll, SetsOut}
+use Rattle.outset.specs.declared.Outset.{Outset}
+use Rattle.planning.specs.Derived.{PlanAt, Served, PlansAt, Later, LastEnd, Between, Spans, Halves, Narrows, LeastOf}
 
--- a job that is not below n, and one that is
-pub within-no : {n j : ℕ} {A : Type 0} → n ≤ j → Decides false ((j < n) × A)
-within-no l = says-no (λ h. omega (arith, h .0))
+-- ── one bound ──
 
-pub within-yes : {n j : ℕ} {r t : Bool} → j < n → r ≡ t → Decides r ((j < n) × T t)
-within-yes l e = says-test e (λ x. (l, x)) (λ x. x .1)
+module _ {L K : List ℕ} {bound x : ℕ} (d : Sets L 227 x K) (z : x ≡ bound) (v : Served L bound) where
+  lent-at : (P : Problem) → Listed L P → Lent K (record { problem = P; bound = bound })
+  lent-at P t = subst (λ (y : ℕ). Lent K (record { problem = P; bound = y })) z (rebound-lent d P t (omega (arith, v .short)))
 
--- a row of one number
-pub row-of : (n i v : ℕ) → (i < n → v ≡ 0) → getD (replicate n v) i 0 ≡ 0
-row-of n i v h = go (decLt i n)
-  where
-    go : Dec (i < n) → getD (replicate n v) i 0 ≡ 0
-    go (yes l) = getD-replicate n i v 0 l ∙ h l
-    go (no l) = getD-past (replicate n v) i 0 (omega (arith, length-replicate n v))
+  pub some-lent : Some (Lent K)
+  some-lent = (record { problem = v .served; bound = bound }, lent-at (v .served) (v .listed))
 
--- ── the first state ──
-
-abbrev pub blankState : State
-blankState = record { inside = 0; barred = 0; sure = replicate 24 0; never = replicate 24 0; lo = replicate 24 0; hi = replicate 24 65535 }
-
--- a state that says nothing fits every valid plan
-pub blank-fits : (P : Search) (s : State) (Q : Plan) → P .problem .count ≤ 24 → P .bound < 65535 → s .inside ≡ 0 → s .barred ≡ 0
-    → ((b : ℕ) → getD (s .sure) b 0 ≡ 0) → ((b : ℕ) → getD (s .never) b 0 ≡ 0) → ((j : ℕ) → getD (s .lo) j 0 ≡ 0) → ((j : ℕ) → j < 24 → getD (s .hi) j 0 ≡ 65535)
-    → Good P Q → Fits P Q (view s)
-blank-fits P s Q few short i o u v lo hi g = record {
-  stays = record {
-    inside = λ j h. absurd (has-zero j (subst (λ (w : ℕ). T (has w j)) i h));
-    barred = λ j h k. has-zero j (subst (λ (w : ℕ). T (has w j)) o h);
-    lo = λ j k. omega (arith, lo j);
-    hi = λ j k. omega (arith, hi j (omega (arith, k .below)), g .inside j k);
-  };
-  sure = λ a b h k m. absurd (has-zero a (subst (λ (w : ℕ). T (has w a)) (u b) h));
-  never = λ a b h k m n. has-zero a (subst (λ (w : ℕ). T (has w a)) (v b) h);
-}
-
-module _ {j n est dur bound : ℕ} {P : Search} (r : RootJob j n est dur bound P) (s : State) where
-  pub out-count : n ≤ j → Out P (view s) j
-  out-count l Q f k = omega (arith, k .below, r .count)
-
-  pub out-long : bound < dur → Out P (view s) j
-  out-long l Q f k = omega (arith, f .good .inside j k, r .long, r .bound-is)
-
-  pub high : dur ≤ bound → High P (view s) j (bound - dur)
-  high l Q f k = omega (arith, f .good .inside j k, r .long, r .bound-is)
-
-  pub low : Low P (view s) j est
-  low Q f k = r .early Q (f .good) k
-
--- ── the search of a loaded table ──
-
--- what is searched for
-abbrev pub searchOf : Loaded → Ask → ℕ → Search
-searchOf l q bound = record { problem = problem l q; bound = bound }
-
--- the numbers that the search is asked with
-abbrev pub askOf : Ask → ℕ → Flaws
-askOf q bound = record { opening = q .opening; goals = q .goals; bound = bound; count = q .jobs }
-
-module _ (l : Loaded) (q : Ask) (est : List ℕ) (bound : ℕ) (ready : Ready l q est bound) (A K H : List ℕ)
-    (adders : ByFact (l .additions) (q .jobs) A 64) (killers : ByFact (l .deletions) (q .jobs) K 64) (hits : AllHit l q H 24) where
-  abbrev Ok : Search → Type 0
-  Ok = Lent (l .conditions) A K (l .durations) H (askOf q bound)
-
-  pub lent-of : Ok (searchOf l q bound)
-  lent-of = record {
-    known = record {
-      wf = ready .order;
-      count = ready .few;
-      count-is = refl;
-      opening = refl;
-      goals = refl;
-      bound = refl;
-      conds = λ b h. refl;
-      adders = adders;
-      killers = killers;
+  pub plans-first : {first : Bool} {starts : List ℕ} {r : Bool} → FirstOf (Lent K) starts r → PlansAt L bound first K starts r
+  plans-first a = record {
+    each = λ P t. record {
+      valid = λ e. a .plan e _ (lent-at P t) .ok;
+      least = λ e h. a .plan e _ (lent-at P t);
+      size = a .size;
+      none = λ e s g. a .none e _ (lent-at P t) s g;
     };
-    tabled = record { steps = λ a h. omega arith; hits = λ a b h x. hits a h .of b x .1 .1 };
-    hits = λ a b h m x. hits a (omega (arith, ready .few)) .at b (omega (arith, ready .few)) (m, x);
-    gap = refl;
-    release = λ j. refl;
-    short = ready .short;
+    kept = rebound d;
   }
 
-  module _ (P : Search) (k : Ok P) where
-    long : (j : ℕ) → j < 24 → P .problem .duration j ≡ getD (l .durations) j 0
-    long j h = omega (arith, k .tabled .steps j h, k .gap)
-
-    below : (i : ℕ) → i < P .problem .count → i < 24
-    below i h = omega (arith, k .known .count)
-
-    alike : Alike (P .problem) (problem l q)
-    alike = record {
-      count = k .known .count-is;
-      conditions = λ i h. k .known .conds i (below i h);
-      additions = λ i p h m. same _ _
-          (λ x. adders p m .of i (k .known .adders p m .at i (below i h) (h, x)) .1 .1)
-          (λ x. k .known .adders p m .of i (adders p m .at i (below i h) (omega (arith, k .known .count-is), x)) .1 .1);
-      duration = λ i h. long i (below i h);
-      release = λ i h. k .release i;
-      gap = k .gap;
-      opening = k .known .opening;
-    }
-
-    -- deleted there, deleted here
-    kills : (i p : ℕ) → i < P .problem .count → deletes (problem l q) i p → deletes (P .problem) i p
-    kills i p h x =
-        let m = ready .order .deleted i (omega (arith, k .known .count-is)) p x in
-        k .known .killers p m .of i (killers p m .at i (below i h) (omega (arith, k .known .count-is), x)) .1 .1
-
-    abbrev b : Begins l q est
-    b = ready .begins
-
-    -- the conditions of a job of the plan are pairwise reachable, so it waits for its estimate
-    early : (Q : Plan) → Good P Q → (j : ℕ) → Has P Q j → getD est j 0 ≤ Q j
-    early Q g j i = omega (arith, b .waits j (below j (i .below)) .fit fits, never-early (P .problem) (k .known .wf) (entry (b .base)) (estimates-alike (P .problem) (problem l q) alike (entry (b .base)) (b .solves)) (P .bound) Q g j i)
-      where
-        fits : FitIn (b .rows) (getD (l .conditions) j 0) 64
-        fits r m x u y =
-            fit-alike (P .problem) (problem l q) (k .known .wf) alike kills (inRows (b .rows)) j (i .below)
-            (fit (P .problem) (k .known .wf) (P .bound) Q g (inRows (b .rows)) (closed-alike (P .problem) (problem l q) (k .known .wf) alike kills (inRows (b .rows)) (b .closed)) j i) r u x y
-
-    pub rooted-of : Rooted (q .jobs) est (l .durations) bound P
-    rooted-of = record {
-      few = ready .few;
-      short = ready .short;
-      jobs = λ j h. record {
-        count = k .known .count-is;
-        long = long j h;
-        bound-is = k .known .bound;
-        early = λ Q g i. early Q g j i;
-      };
-    }
-
-  -- what the search from a state that all plans fit says of the problem
-  pub plan-some : (s : State) (r : Answer) → FitsAll (searchOf l q bound) s → Answers Ok s r → PlanAt (problem l q) bound false r
-  plan-some s r f a = record {
-    found = λ e. a .found e (searchOf l q bound) lent-of .good;
-    least = λ e h. absurd (subst T (sym h) tt);
-    none = λ e z v. a .none e (searchOf l q bound) lent-of z (record { good = v; fits = f z v });
+  pub plans-any : {first : Bool} {s old starts : List ℕ} {r : Bool} → first ≡ false → ((P : Search) → Lent K P → FitsAll P s) → Answers (Lent K) s old starts r → PlansAt L bound first K starts r
+  plans-any n f a = record {
+    each = λ P t. record {
+      valid = λ e. a .plan e _ (lent-at P t) .good;
+      least = λ e h. absurd (true≢false (sym h ∙ n));
+      size = a .size;
+      none = λ e s g. a .none e _ (lent-at P t) s (record { good = g; fits = f _ (lent-at P t) s g });
+    };
+    kept = rebound d;
   }
 
-  pub plan-first : (r : Answer) → FirstOf Ok r → PlanAt (problem l q) bound true r
-  plan-first r a = record {
-    found = λ e. a .found e (searchOf l q bound) lent-of .ok;
-    least = λ e h. a .found e (searchOf l q bound) lent-of;
-    none = λ e z v. a .none e (searchOf l q bound) lent-of z v;
-  }
+-- there is no plan, so no bound is the least
+pub least-not : {P : Problem} {top : ℕ} {starts : List ℕ} → NoPlan P top → LeastOf P top starts 65535
+least-not n = record { found = λ x. absurd (x refl); size = λ x. absurd (x refl); none = λ x. n }
 
-  pub plan-either : (first : Bool) (s : State) (r : Answer) → FitsAll (searchOf l q bound) s → From Ok s first r → PlanAt (problem l q) bound first r
-  plan-either true s r f a = plan-first r (a .whole refl)
-  plan-either false s r f a = plan-some s r f (a .any refl)
+-- ── what is searched has the table's plans ──
+
+module _ {l : Loaded} {q : Ask} {o : Outset} (x : SetsOut l q o) where
+  none-same : (bound : ℕ) → NoPlan (x .searched) bound → NoPlan (problem l q) bound
+  none-same bound n z v = n z (x .same bound z .0 v)
+
+  first-same : (bound : ℕ) (s : Plan) → First (x .searched) bound s → First (problem l q) bound s
+  first-same bound s f = record { ok = x .same bound s .1 (f .ok); none = λ z v b. f .none z (x .same bound z .0 v) (record { at = b .at; below = omega (arith, b .below, x .jobs); same = b .same; less = b .less }) }
+
+  -- where the goals can't hold together there is no plan
+  pub plan-none : {bound : ℕ} {first : Bool} {starts : List ℕ} → o .goals ≡ false → PlanAt (problem l q) bound first starts false
+  plan-none {bound} e = record { valid = λ h. absurd (subst T (sym h) tt); least = λ h. absurd (subst T (sym h) tt); size = λ h. absurd (subst T (sym h) tt); none = λ h. x .hopeless e bound }
+
+  pub plan-same : {bound : ℕ} {first : Bool} {starts : List ℕ} {r : Bool} → PlanAt (x .searched) bound first starts r → PlanAt (problem l q) bound first starts r
+  plan-same {bound} p = record { valid = λ e. x .same bound _ .1 (p .valid e); least = λ e g. first-same bound _ (p .least e g); size = p .size; none = λ e. none-same bound (p .none e) }
+
+  pub least-same : {top b : ℕ} {starts : List ℕ} → LeastOf (x .searched) top starts b → LeastOf (problem l q) top starts b
+  least-same {top} p = record { found = λ e. bound (p .found e); size = p .size; none = λ e. none-same top (p .none e) }
+    where
+      bound : {b : ℕ} {s : Plan} → LeastBound (x .searched) top b s → LeastBound (problem l q) top b s
+      bound {b} {s} f = record { within = f .within; first = first-same b s (f .first); none = λ c z m v. f .none c z m (x .same c z .0 v) }
 
 -- ── enough time ──
 
@@ -233,9 +131,65 @@ not-below P low e s n v = go (decLt e low)
     go (no h) = omega arith
 
 -- where there is a plan, one is found
-pub surely : (P : Problem) (bound : ℕ) (first : Bool) (r : Answer) → PlanAt P bound first r → (s : Plan) × Valid P bound s → r .found ≡ true
-surely P bound first r p v = go (r .found) refl
+pub surely : {P : Problem} {bound : ℕ} {first : Bool} {starts : List ℕ} {r : Bool} → PlanAt P bound first starts r → (s : Plan) × Valid P bound s → r ≡ true
+surely {P} {bound} {r = r} p v = go r (p .none)
   where
-    go : (x : Bool) → r .found ≡ x → r .found ≡ true
-    go true e = e
-    go false e = absurd (p .none e (v .0) (v .1))
+    go : (x : Bool) → (x ≡ false → NoPlan P bound) → x ≡ true
+    go true n = refl
+    go false n = absurd (n refl (v .0) (v .1))
+
+-- a plan that is found is valid within its last end, which is in the bound
+module _ {L K starts : List ℕ} {mid e : ℕ} {first r : Bool} (d : PlansAt L mid first K starts r) (h : r ≡ true) (ends : (P : Problem) → Listed K P → LastEnd P (planOf starts) (P .count) e) (P : Problem) (t : Listed L P) where
+  pub ends-valid : Valid P e (planOf starts)
+  ends-valid = end-valid P (t .wf) (planOf starts) mid e (ends P (d .kept P t)) (d .each P t .valid h)
+
+  pub ends-within : e ≤ mid
+  ends-within = end-within P (t .wf) (planOf starts) mid e (ends P (d .kept P t)) (d .each P t .valid h)
+
+module _ {L K starts : List ℕ} {low high mid : ℕ} {first r : Bool} (d : PlansAt L mid first K starts r) (m : mid < high) where
+  pub halves-up : r ≡ false → low ≤ mid → Halves L low high K (record { low = mid + 1; high = high })
+  halves-up n l = record {
+    each = λ P t b. record { none = none-below P mid (d .each P t .none n); some = b .some };
+    within = omega arith;
+    top = le-refl high;
+    less = inl (omega arith);
+    bottom = omega arith;
+    kept = d .kept;
+  }
+
+  pub halves-down : {e : ℕ} → r ≡ true → ((P : Problem) → Listed K P → LastEnd P (planOf starts) (P .count) e) → Spans L low high → Halves L low high K (record { low = low; high = e })
+  halves-down {e} h ends s = record {
+    each = λ P t b. record { none = b .none; some = (planOf starts, ends-valid d h ends P t) };
+    within = not-below (s .spanned) low e (planOf starts) (s .between .none) (ends-valid d h ends (s .spanned) (s .listed));
+    top = omega (arith, ends-within d h ends (s .spanned) (s .listed));
+    less = inr (omega (arith, ends-within d h ends (s .spanned) (s .listed)));
+    bottom = le-refl low;
+    kept = d .kept;
+  }
+
+-- the least bound with the first plan at it, from a plan and its last end
+module _ {L K some : List ℕ} {top e : ℕ} {flag r : Bool} (v : Served L top) (d : PlansAt L top flag K some r) (h : r ≡ true)
+    (ends : (P : Problem) → Listed K P → LastEnd P (planOf some) (P .count) e) where
+  pub ends-short : e < 65535
+  ends-short = omega (arith, ends-within d h ends (v .served) (v .listed), v .short)
+
+  span : (P : Problem) → Listed L P → Between P 0 e
+  span P t = record { none = λ c l. absurd (omega arith); some = (planOf some, ends-valid d h ends P t) }
+
+  pub spans-all : Spans K 0 e
+  spans-all = record { spanned = v .served; listed = d .kept (v .served) (v .listed); between = span (v .served) (v .listed); short = ends-short }
+
+  module _ {M : List ℕ} {b : ℕ} (n : Narrows K e M b) where
+    pub served-least : Served M b
+    served-least = record { served = v .served; listed = n .kept (v .served) (d .kept (v .served) (v .listed)); short = omega (arith, n .within, ends-short) }
+
+    pub least-found : {N best : List ℕ} {s : Bool} → PlansAt M b true N best s → (P : Problem) → Listed L P → LeastOf P top best b
+    least-found f P t =
+        let w = n .each P (d .kept P t) (span P t) in
+        let p = f .each P (n .kept P (d .kept P t)) in
+        let y = surely p (w .some) in
+        record {
+          found = λ x. record { within = omega (arith, n .within, ends-within d h ends P t); first = p .least y refl; none = λ c z l g. w .none c l z g };
+          size = λ x. p .size y;
+          none = λ x. absurd (omega (arith, n .within, ends-short));
+        }

@@ -1,125 +1,194 @@
 -- Laws of the pruning by supports.
 -- Assumes nothing.
-use mathlib.Core.Path.{_≡_, refl, sym, subst, ap}
+use mathlib.Core.Path.{_≡_, refl, subst, ap}
 use mathlib.Core.Logic.{_≢_, ⊎-elim}
-use mathlib.Core.Bool.{Bool}
-use Prim.Native.Nat.{ℕ, _+_, _≤_, _<_, _^_}
+use mathlib.Core.Bool.{Bool, false}
+use mathlib.Core.List.{List}
+use Prim.Native.Nat.{ℕ, _+_, _≤_, _<_}
+use native.Mathlib.Nat.{le-trans}
 use native.Mathlib.Omega.{arith}
 use lib.Dec.{T}
-use lib.ListN.{getD}
-use lib.Bits.{bitOr}
-use mathlib.Core.List.{List}
-use Rattle.facts.specs.Facts.{has}
-use Rattle.rules.specs.Table.{InOrder, deletes}
-use Rattle.rules.specs.Supports.{Support, start, nobody, by}
-use Rattle.states.specs.State.{Search, More, Keeps, Dead, Must, Out, Sure, Who, task, goal, Wants, there, Forced, ForcedStart, late, May, MayStart, MayJob, Low}
-use Rattle.states.proofs.Keep.{keeps-trans, left-back}
-use Rattle.orders.specs.declared.State.{State}
-use Rattle.orders.specs.View.{view, PutInside, PutBarred, AllTakes}
-use Rattle.flaws.specs.Flaw.{who, NoMay, Lack, Cols, Lists, Known}
-use Rattle.orders.proofs.Changes.{keeps-inside, keeps-barred, bit-cases}
-use Rattle.flaws.proofs.Flaws.{who-job, other-who, looked}
-use Rattle.prune.specs.Prune.{Spares, StartOnly, StartAll, Single, MinIf, LeastOf, Told, Rule, WantsAll}
-use Rattle.flaws.specs.declared.Ask.{Ask}
-use Rattle.facts.proofs.Bools.{below-suc}
+use Rattle.facts.specs.Facts.{has, Decides}
+use Rattle.facts.specs.Least.{least}
+use Rattle.facts.specs.Walks.{Walk}
 use Rattle.facts.proofs.Sets.{has-zero}
+use Rattle.facts.proofs.Walks.{Done, done-next, done-map}
+use Rattle.rules.specs.Table.{InOrder}
+use Rattle.rules.specs.Supports.{Support, start, nobody, by}
+use Rattle.states.specs.State.{Search, St, More, Dead, Must, Out, Sure, Low, Who, task, goal, Wants, there, late, useless, Killer, MayStart, MayJob, May, Forced, ForcedStart}
+use Rattle.states.proofs.Keep.{left-back}
 use Rattle.states.proofs.Rules as rules
+use Rattle.cells.specs.View.{view, ins, outs, Prunes, PutsBit, IsIn, IsOut}
+use Rattle.cells.proofs.Changes.{says, follows}
+use Rattle.lent.specs.Lent.{Cols, Deletes, wantsOf, addersOf, killersOf, stepOf, Lent}
+use Rattle.lent.specs.Consumers.{who}
+use Rattle.lent.proofs.Consumers.{who-job, other-who, wants-of}
+use Rattle.supports.specs.Supports.{Danger, Candidate, Sight, NoMay}
+use Rattle.prune.specs.Prune.{NoneLeft, Lost, Killers, Spared, Begun, Single, LeastOf, Told, Awaits, OnlyOne, OnlyStart}
 
-pub killed : (P : Search) {s t r : State} → PutInside s 0 t → PutBarred t 0 r → Dead P (view s) → Keeps P (view s) (view r)
-killed P d e h = let k = keeps-inside P 0 d (λ Q l. absurd (h Q l)) in keeps-trans k (keeps-barred P 0 e (λ Q l. absurd (h Q (left-back (k .more) l))))
+-- ── no plan, no candidate ──
 
-pub none-end : (P : Search) (s : State) (b p : ℕ) → b ≡ 24 → InOrder (P .problem) → Wants P (who b) p → NoMay P s p b → Dead P (view s)
-none-end P s b p e wf n h = rules.none-dead P wf (view s) goal p tt (rw e at n) (rw e at h)
+pub killed : {s t r : List ℕ} → PutsBit (IsIn 0) ins 0 s t → PutsBit (IsOut 0) outs 0 t r → Prunes (NoneLeft s) s r
+killed {t = t} d e = follows {U = NoneLeft t} (says d (λ P wf h Q l. absurd (h Q l))) (λ P h m Q l. h Q (left-back m l)) (says e (λ P wf h Q l. absurd (h Q l)))
 
-pub none-job : (P : Search) (s : State) (b p : ℕ) → b < 24 → InOrder (P .problem) → Wants P (who b) p → NoMay P s p b → Out P (view s) b
-none-job P s b p l wf n h = rules.none-bars P wf (view s) b p (subst (λ (v : Who). Wants P v p) (who-job b l) n) (subst (λ (v : Who). (x : Support) → May P (view s) p v x → ⊥) (who-job b l) h)
+module _ {P : Search} (wf : InOrder (P .problem)) {s : List ℕ} {b : ℕ} (x : Lost s b P) where
+  pub lost-end : b ≡ 24 → Dead P (view s)
+  lost-end e = rules.none-dead P wf (view s) goal (x .p) tt (rw e at (x .wants)) (rw e at (x .none))
 
-there-more : (s t : State) (w : Who) → More (view s) (view t) → T (there (view s) w) → T (there (view t) w)
+  pub lost-job : b < 24 → Out P (view s) b
+  lost-job l = rules.none-bars P wf (view s) b (x .p) (subst (λ (v : Who). Wants P v (x .p)) (who-job b l) (x .wants)) (subst (λ (v : Who). (y : Support) → May P (view s) (x .p) v y → ⊥) (who-job b l) (x .none))
+
+-- ── a support that is forced ──
+
+there-more : (s t : St) (w : Who) → More s t → T (there s w) → T (there t w)
 there-more s t (task b) m h = m .inside b h
 there-more s t goal m h = h
 
-pub spares-more : {P : Search} {s t : State} {b a p : ℕ} → More (view s) (view t) → Spares P s b a p → Spares P t b a p
-spares-more {P} {s} {t} {b} m x = record { wf = x .wf; here = there-more s t (who b) m (x .here); forced = λ Q l. x .forced Q (left-back m l) }
+pub spared-more : {s t : List ℕ} {b a kills : ℕ} (P : Search) → Spared s b a kills P → More (view s) (view t) → Spared t b a kills P
+spared-more {s} {t} {b} P x m = record { p = x .p; here = there-more (view s) (view t) (who b) m (x .here); forced = λ Q l. x .forced Q (left-back m l); killers = x .killers }
 
-module _ (P : Search) (s : State) (b a p : ℕ) (x : Spares P s b a p) where
-  pub spare-first : (d : ℕ) → deletes (P .problem) d p → d ≢ b → T (late (view s) (who b) d) → Sure P (view s) d a
-  spare-first d k ne h = rules.forced-first P (x .wf) (view s) (who b) p a (x .here) (x .forced) d k (other-who b d ne) h
+module _ {P : Search} (wf : InOrder (P .problem)) {s : List ℕ} {b a kills : ℕ} (x : Spared s b a kills P) where
+  abbrev of-job : b < 24 → Forced P (view s) (task b) (x .p) a
+  of-job l = subst (λ (v : Who). Forced P (view s) v (x .p) a) (who-job b l) (x .forced)
 
-  pub spare-after : b < 24 → (d : ℕ) → deletes (P .problem) d p → d ≢ b → T (view s .never d a) → Sure P (view s) b d
-  spare-after l d k ne h = rules.forced-after P (x .wf) (view s) b p a (subst (λ (v : Who). Forced P (view s) v p a) (who-job b l) (x .forced)) d k ne h
+  pub spare-first : (d : ℕ) → T (has kills d) → d ≢ b → T (late (view s) (who b) d) → Sure P (view s) d a
+  spare-first d k n h = rules.forced-first P wf (view s) (who b) (x .p) a (x .here) (x .forced) d (x .killers d k) (other-who b d n) h
+
+  pub spare-after : b < 24 → (d : ℕ) → T (has kills d) → d ≢ b → T (view s .never d a) → Sure P (view s) b d
+  spare-after l d k n h = rules.forced-after P wf (view s) b (x .p) a (of-job l) d (x .killers d k) n h
 
   pub spare-in : Must P (view s) a
-  spare-in = rules.forced-must P (x .wf) (view s) (who b) p a (x .here) (x .forced)
+  spare-in = rules.forced-must P wf (view s) (who b) (x .p) a (x .here) (x .forced)
 
   pub spare-before : b < 24 → Sure P (view s) a b
-  spare-before l = rules.forced-before P (x .wf) (view s) b p a (subst (λ (v : Who). Forced P (view s) v p a) (who-job b l) (x .forced))
+  spare-before l = rules.forced-before P wf (view s) b (x .p) a (of-job l)
 
-start-more : {P : Search} {s t : State} {b p : ℕ} → More (view s) (view t) → StartOnly P s b p → StartOnly P t b p
-start-more m x = record { wf = x .wf; forced = λ Q l. x .forced Q (left-back m l) }
+pub begun-more : {s t : List ℕ} {b kills : ℕ} (P : Search) → Begun s b kills P → More (view s) (view t) → Begun t b kills P
+begun-more P x m = record { p = x .p; forced = λ Q l. x .forced Q (left-back m l); killers = x .killers }
 
-pub start-next : (s t r : State) (b kills : ℕ) → StartAll s b kills t → StartAll t b kills r → StartAll s b kills r
-start-next s t r b kills f g P p x k = let h = f P p x k in keeps-trans h (g P p (start-more (h .more) x) k)
+module _ {P : Search} (wf : InOrder (P .problem)) {s : List ℕ} {b kills : ℕ} (x : Begun s b kills P) (d : ℕ) (k : T (has kills d)) where
+  pub begun-before : b < 24 → d ≢ b → Sure P (view s) b d
+  begun-before l n = rules.start-before P wf (view s) b (x .p) (subst (λ (v : Who). ForcedStart P (view s) v (x .p)) (who-job b l) (x .forced)) d (x .killers d k) n
 
-module _ (P : Search) (s : State) (b p : ℕ) (x : StartOnly P s b p) where
-  pub start-sure : b < 24 → (d : ℕ) → deletes (P .problem) d p → d ≢ b → Sure P (view s) b d
-  start-sure l d k ne = rules.start-before P (x .wf) (view s) b p (subst (λ (v : Who). ForcedStart P (view s) v p) (who-job b l) (x .forced)) d k ne
+  pub begun-out : b ≡ 24 → Out P (view s) d
+  begun-out e = rules.start-bars P wf (view s) (x .p) (rw e at (x .forced)) d (x .killers d k)
 
-  pub start-out : b ≡ 24 → (d : ℕ) → deletes (P .problem) d p → Out P (view s) d
-  start-out e d k = rules.start-bars P (x .wf) (view s) p (rw e at (x .forced)) d k
+-- ── walks ──
 
-pub single-is : {w d v e : ℕ} → Lack w 0 d → d < 24 → v ≡ bitOr 0 (2 ^ d) → Lack w v e → e ≡ 24 → Single w d
-single-is {w} {d} {v} l h z m q = record { within = omega arith; only = λ k i li b. ⊎-elim (λ y. absurd (has-zero i y)) (λ y. y) (bit-cases 0 d i (subst (λ (y : ℕ). T (has y i)) z (m .none q i li b))) }
+pub one-bit : {w r d : ℕ} → Walk 32 w r → r ≡ 0 → d ≡ least (has w) 32 → d < 24 → Single w d
+one-bit k z e l = record { within = omega arith; only = λ h i y. ⊎-elim (λ q. omega arith) (λ q. absurd (has-zero i (subst (λ (v : ℕ). T (has v i)) z q))) (k .rest i y) }
 
-pub single-none : {w : ℕ} → Single w 24
-single-none = record { within = omega arith; only = λ k. absurd (omega arith) }
+-- job a finishes at m or later
+abbrev pub Ends : (s L : List ℕ) (m a : ℕ) → Type 0
+Ends s L m a = a < 24 → m ≤ view s .lo a + stepOf L a
 
-pub least-next : (s : State) (S : List ℕ) (w n m x r : ℕ) {hit : Bool} → LeastOf s S w n m → MinIf m x r hit → hit ≡ has w n → x ≡ getD (s .lo) n 0 + getD S n 0 → LeastOf s S w (n + 1) r
-least-next s S w n m x r f i e z a l h = ⊎-elim
-    (λ k. omega (arith, f a k h, i .old))
-    (λ k. subst (λ (y : ℕ). r ≤ getD (s .lo) y 0 + getD S y 0) (sym k) (subst (λ (y : ℕ). r ≤ y) z (i .new (subst (λ (y : Bool). T y) (sym e) (rw k at h)))))
-    (below-suc a n (omega arith))
+pub least-next : (s L : List ℕ) {w v v' d m r : ℕ} → Done (Ends s L m) w v → Walk 32 v v' → d ≡ least (has v) 32 → (r ≤ m) × Ends s L r d → Done (Ends s L r) w v'
+least-next s L {r = r} f k e x = done-next (done-map (λ a g l. le-trans (x .0) (g l)) f) k (subst (λ (a : ℕ). Ends s L r a) e (x .1))
 
-pub wait-low : (P : Search) (s : State) (b p kills w r : ℕ) (S : List ℕ) → b < 24 → Told P s p b kills w → AllTakes S P → (MayStart P (view s) p (who b) → ⊥) → LeastOf s S w 24 r → Low P (view s) b r
-wait-low P s b p kills w r S l t al n h = rules.waits P (t .wf) (view s) b p r
-    (subst (λ (v : Who). Wants P v p) (who-job b l) (t .wants))
-    (subst (λ (v : Who). MayStart P (view s) p v → ⊥) (who-job b l) n)
-    (subst (λ (v : Who). (a : ℕ) → MayJob P (view s) p v a → r ≤ getD (s .lo) a 0 + P .problem .duration a + P .problem .gap) (who-job b l)
-    (λ a m. (let k : a < 24 = omega (arith, m .below, t .count) in omega (arith, h a k (t .cands .at a k m), al a k))))
+-- ── from candidates to a forced support ──
 
-module _ (P : Search) (s : State) (p b K w : ℕ) (t : Told P s p b K w) where
-  pub no-may : w ≡ 0 → (MayStart P (view s) p (who b) → ⊥) → NoMay P s p b
-  no-may e n start m = n m
-  no-may e n nobody m = m
-  no-may e n (by a) m = has-zero a (subst (λ (y : ℕ). T (has y a)) e (t .cands .at a (omega (arith, m .below, t .count)) m))
+pub awaits-low : {P : Search} {L s : List ℕ} {b w r : ℕ} → InOrder (P .problem) → Awaits L s b w P → b < 24 → LeastOf s L w r → Low P (view s) b r
+awaits-low {P} {L} {s} {b} {w} {r} wf x l f =
+    let t = x .told in
+    let k = x .lent .listed in
+    rules.waits P wf (view s) b (t .p) r
+    (subst (λ (v : Who). Wants P v (t .p)) (who-job b l) (t .wants))
+    (subst (λ (v : Who). MayStart P (view s) (t .p) v → ⊥) (who-job b l) (x .late))
+    (subst (λ (v : Who). (a : ℕ) → MayJob P (view s) (t .p) v a → r ≤ view s .lo a + P .problem .duration a + P .problem .gap) (who-job b l)
+    (λ a m. (let h : a < 24 = omega (arith, m .below, k .few) in omega (arith, f a h (t .all a m), k .steps a h))))
 
-  pub only-one : {a : ℕ} → Single w a → a < 24 → (MayStart P (view s) p (who b) → ⊥) → T (there (view s) (who b)) → Spares P s b a p
-  only-one {a} o l n h = record { wf = t .wf; here = h; forced = rules.only-job P (t .wf) (view s) (who b) p h (t .wants) a only }
+no-bit : {w : ℕ} (a : ℕ) → w ≡ 0 → T (has w a) → ⊥
+no-bit a e h = has-zero a (subst (λ (v : ℕ). T (has v a)) e h)
+
+pub only-spared : {P : Search} {s : List ℕ} {b w kills a : ℕ} → InOrder (P .problem) → OnlyOne s b w kills P → Single w a → a < 24 → T (there (view s) (who b)) → Spared s b a kills P
+only-spared {P} {s} {b} {w} {kills} {a} wf x o l h = let t = x .told in record { p = t .p; here = h; forced = rules.only-job P wf (view s) (who b) (t .p) h (t .wants) a only; killers = x .killers }
+  where
+    only : (y : Support) → May P (view s) (x .told .p) (who b) y → y ≡ by a
+    only start m = absurd (x .late m)
+    only nobody m = absurd m
+    only (by c) m = ap by (o .only l c (x .told .all c m))
+
+pub only-begun : {P : Search} {s : List ℕ} {b w kills : ℕ} → InOrder (P .problem) → OnlyStart s b w kills P → w ≡ 0 → T (there (view s) (who b)) → Begun s b kills P
+only-begun {P} {s} {b} wf x e h = let t = x .told in record { p = t .p; forced = rules.only-start P wf (view s) (who b) (t .p) h (t .wants) only; killers = x .killers }
+  where
+    only : (y : Support) → May P (view s) (x .told .p) (who b) y → y ≡ start
+    only start m = refl
+    only nobody m = absurd m
+    only (by c) m = absurd (no-bit c e (x .told .all c m))
+
+-- ── a candidate of what says more is one of what says less ──
+
+late-more : (s t : St) (w : Who) (d : ℕ) → More s t → T (late s w d) → T (late t w d)
+late-more s t (task b) d m h = m .never b d h
+late-more s t goal d m h = h
+
+useless-more : (s t : St) (a : ℕ) (w : Who) → More s t → T (useless s a w) → T (useless t a w)
+useless-more s t a (task b) m h = m .never a b h
+useless-more s t a goal m h = h
+
+module _ {P : Search} {s t : St} (m : More s t) (p : ℕ) (w : Who) where
+  killer-more : (d : ℕ) → Killer P s p w d → Killer P t p w d
+  killer-more d k = record { below = k .below; in? = m .inside d (k .in?); kills = k .kills; other = k .other }
+
+  start-back : MayStart P t p w → MayStart P s p w
+  start-back x = record { given = x .given; clear = λ d k h. x .clear d (killer-more d k) (late-more s t w d m h) }
+
+  job-back : (a : ℕ) → MayJob P t p w a → MayJob P s p w a
+  job-back a x = record {
+    below = x .below;
+    gives = x .gives;
+    free = λ h. x .free (m .barred a h);
+    other = x .other;
+    before = λ h. x .before (useless-more s t a w m h);
+    clear = λ d k n h. x .clear d (killer-more d k) (m .never d a n) (late-more s t w d m h);
+  }
+
+pub only-more : {s t : List ℕ} {b w kills : ℕ} (P : Search) → OnlyOne s b w kills P → More (view s) (view t) → OnlyOne t b w kills P
+only-more {b = b} P x m = let p = x .told .p in record {
+  told = record { p = p; wants = x .told .wants; all = λ a y. x .told .all a (job-back m p (who b) a y) };
+  late = λ y. x .late (start-back m p (who b) y);
+  killers = x .killers;
+}
+
+-- ── what the words of a fact say of it ──
+
+pub record Seen (L s : List ℕ) (b w kills : ℕ) (may : Bool) (P : Search) : Type 0 where
+  pub lent : Lent L P
+  pub told : Told s b w P
+  pub killers : Killers P (told .p) kills
+  pub begin : Decides may (MayStart P (view s) (told .p) (who b))
+
+module _ {L s : List ℕ} {b p : ℕ} (l : (b ≤ 24) × (p < 64)) (h : T (has (wantsOf L b) p)) {kills adders dang w : ℕ} {may : Bool} where
+  pub seen : kills ≡ killersOf L p → adders ≡ addersOf L p
+      → ((P : Search) (p : ℕ) → Cols (Deletes (P .problem) p) kills 24 → Cols (Danger P s p b) dang 24)
+      → ((P : Search) (p : ℕ) → Sight P s p b adders dang → Cols (Candidate P s p b) w 24)
+      → ((P : Search) (s : List ℕ) (b : ℕ) → Lent L P → Cols (Danger P s p b) dang 24 → Decides may (MayStart P (view s) p (who b)))
+      → (P : Search) → Lent L P → Seen L s b w kills may P
+  seen ek ea fd fc fm P e =
+      let k : Cols (Deletes (P .problem) p) kills 24 = rw ek (e .listed .killers p (l .1)) in
+      let d = fd P p k in
+      let c = fc P p (record { few = e .listed .few; gives = rw ea (e .listed .adders p (l .1)); dangers = d }) in
+      record {
+        lent = e;
+        told = record { p = p; wants = wants-of e p b (l .0) h; all = λ a m. c .at a (omega (arith, m .below, e .listed .few)) m };
+        killers = λ a y. k .of a y .1 .1;
+        begin = fm P s b e d;
+      }
+
+module _ {L s : List ℕ} {b w kills : ℕ} {may : Bool} {P : Search} (x : Seen L s b w kills may P) where
+  pub seen-start : OnlyStart s b w kills P
+  seen-start = record { told = x .told; killers = x .killers }
+
+  pub seen-one : may ≡ false → OnlyOne s b w kills P
+  seen-one e = record { told = x .told; late = x .begin .nay e; killers = x .killers }
+
+  pub seen-waits : may ≡ false → Awaits L s b w P
+  seen-waits e = record { lent = x .lent; told = x .told; late = x .begin .nay e }
+
+  pub seen-none : may ≡ false → w ≡ 0 → Lost s b P
+  seen-none e z = record { p = x .told .p; wants = x .told .wants; none = none }
     where
-      only : (x : Support) → May P (view s) p (who b) x → x ≡ by a
-      only start m = absurd (n m)
-      only nobody m = absurd m
-      only (by c) m = let k : c < 24 = omega (arith, m .below, t .count) in ap by (o .only l c k (t .cands .at c k m))
-
-  pub only-begin : w ≡ 0 → T (there (view s) (who b)) → StartOnly P s b p
-  only-begin e h = record { wf = t .wf; forced = rules.only-start P (t .wf) (view s) (who b) p h (t .wants) only }
-    where
-      only : (x : Support) → May P (view s) p (who b) x → x ≡ start
-      only start m = refl
-      only nobody m = absurd m
-      only (by c) m = absurd (has-zero c (subst (λ (y : ℕ). T (has y c)) e (t .cands .at c (omega (arith, m .below, t .count)) m)))
-
-pub there-job : (s : State) (b : ℕ) {r : Bool} → b < 24 → r ≡ has (s .inside) b → r ≡ there (view s) (who b)
-there-job s b {r} l e = subst (λ (v : Who). r ≡ there (view s) v) (sym (who-job b l)) e
-
-pub told : {P : Search} {s : State} {b p O A K w : ℕ} → Rule P b p O A K → Cols (MayJob P (view s) p (who b)) w 24 → Told P s p b K w
-told r k = record { wf = r .wf; wants = r .wants; count = r .looked .count; kills = r .looked .killers; cands = k }
-
-pub rule-at : {P : Search} (b word : ℕ) {O : ℕ} {A K : List ℕ} → InOrder (P .problem) → WantsAll P b word → Lists P O A K → (p : ℕ) → p < 64 → T (has word p) → Rule P b p O (getD A p 0) (getD K p 0)
-rule-at b word wf w l p h k = record { wf = wf; wants = w p k; looked = looked l p h }
-
-module _ {C A K : List ℕ} {ask : Ask} {P : Search} (k : Known C A K ask P) where
-  pub wants-end : (b : ℕ) → b ≡ 24 → WantsAll P b (ask .goals)
-  wants-end b e p h = subst (λ (y : ℕ). Wants P (who y) p) (sym e) (subst (λ (y : ℕ). T (has y p)) (sym (k .goals)) h)
-
-  pub wants-job : (b : ℕ) → b < 24 → WantsAll P b (getD C b 0)
-  wants-job b l p h = subst (λ (v : Who). Wants P v p) (sym (who-job b l)) (subst (λ (y : ℕ). T (has y p)) (sym (k .conds b l)) h)
+      none : NoMay P s (x .told .p) b
+      none start m = x .begin .nay e m
+      none nobody m = m
+      none (by a) m = no-bit a z (x .told .all a m)

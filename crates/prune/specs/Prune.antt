@@ -1,59 +1,71 @@
 -- What the contracts of the pruning by supports cite.
 -- Assumes nothing.
 use mathlib.Core.Path.{_≡_}
+use mathlib.Core.List.{List}
 use Prim.Native.Nat.{ℕ, _+_, _≤_, _<_}
 use lib.Dec.{T}
-use mathlib.Core.Bool.{Bool}
-use mathlib.Core.List.{List}
-use lib.ListN.{getD}
 use Rattle.facts.specs.Facts.{has}
-use Rattle.rules.specs.Table.{InOrder}
-use Rattle.states.specs.State.{Search, Keeps, Forced, ForcedStart, there, Wants, MayJob}
-use Rattle.orders.specs.View.{view}
-use Rattle.flaws.specs.Flaw.{who, Cols, Deletes, Looked}
-use Rattle.orders.specs.declared.State.{State}
+use Rattle.rules.specs.Table.{deletes}
+use Rattle.states.specs.State.{Search, Dead, Forced, ForcedStart, there, Wants, MayStart}
+use Rattle.cells.specs.View.{view}
+use Rattle.lent.specs.Lent.{stepOf, Lent}
+use Rattle.lent.specs.Consumers.{who}
+use Rattle.supports.specs.Supports.{Candidate, NoMay}
 
--- the consumer b is there, and the job a is its support in every plan left
-pub record Spares (P : Search) (s : State) (b a p : ℕ) : Type 0 where
-  pub wf : InOrder (P .problem)
+-- no plan is left
+abbrev pub NoneLeft : List ℕ → Search → Type 0
+NoneLeft s P = Dead P (view s)
+
+-- some fact of the consumer b has no candidate
+pub record Lost (s : List ℕ) (b : ℕ) (P : Search) : Type 0 where
+  pub p : ℕ
+  pub wants : Wants P (who b) p
+  pub none : NoMay P s p b
+
+-- every job of the word deletes p
+abbrev pub Killers : Search → (p w : ℕ) → Type 0
+Killers P p w = (d : ℕ) → T (has w d) → deletes (P .problem) d p
+
+-- the consumer b is there, the job a is its support for a fact in every plan left, and the jobs of `kills` delete the fact
+pub record Spared (s : List ℕ) (b a kills : ℕ) (P : Search) : Type 0 where
+  pub p : ℕ
   pub here : T (there (view s) (who b))
   pub forced : Forced P (view s) (who b) p a
-
-abbrev pub SparesAll : State → ℕ → ℕ → ℕ → State → Type 0
-SparesAll s b a kills r = (P : Search) (p : ℕ) → Spares P s b a p → Cols (Deletes P p) kills 24 → Keeps P (view s) (view r)
+  pub killers : Killers P p kills
 
 -- the same for Start
-pub record StartOnly (P : Search) (s : State) (b p : ℕ) : Type 0 where
-  pub wf : InOrder (P .problem)
+pub record Begun (s : List ℕ) (b kills : ℕ) (P : Search) : Type 0 where
+  pub p : ℕ
   pub forced : ForcedStart P (view s) (who b) p
+  pub killers : Killers P p kills
 
-abbrev pub StartAll : State → ℕ → ℕ → State → Type 0
-StartAll s b kills r = (P : Search) (p : ℕ) → StartOnly P s b p → Cols (Deletes P p) kills 24 → Keeps P (view s) (view r)
-
--- r is the only bit of w below 24, or 24
+-- r is the only bit of w, or 24
 pub record Single (w r : ℕ) : Type 0 where
   pub within : r ≤ 24
-  pub only : r < 24 → (i : ℕ) → i < 24 → T (has w i) → i ≡ r
+  pub only : r < 24 → (i : ℕ) → T (has w i) → i ≡ r
 
-pub record MinIf (m x r : ℕ) (hit : Bool) : Type 0 where
-  pub old : r ≤ m
-  pub new : T hit → r ≤ x
+-- every job of w that is one finishes at r or later
+abbrev pub LeastOf : (s L : List ℕ) (w r : ℕ) → Type 0
+LeastOf s L w r = (a : ℕ) → a < 24 → T (has w a) → r ≤ view s .lo a + stepOf L a
 
-abbrev pub LeastOf : State → List ℕ → ℕ → ℕ → ℕ → Type 0
-LeastOf s S w n r = (a : ℕ) → a < n → T (has w a) → r ≤ getD (s .lo) a 0 + getD S a 0
-
--- what a rule for the fact p of the consumer b is told
-pub record Told (P : Search) (s : State) (p b K w : ℕ) : Type 0 where
-  pub wf : InOrder (P .problem)
+-- b wants a fact, and all its candidates that are jobs are in w
+pub record Told (s : List ℕ) (b w : ℕ) (P : Search) : Type 0 where
+  pub p : ℕ
   pub wants : Wants P (who b) p
-  pub count : P .problem .count ≤ 24
-  pub kills : Cols (Deletes P p) K 24
-  pub cands : Cols (MayJob P (view s) p (who b)) w 24
+  pub all : (a : ℕ) → Candidate P s p b a → T (has w a)
 
-pub record Rule (P : Search) (b p O A K : ℕ) : Type 0 where
-  pub wf : InOrder (P .problem)
-  pub wants : Wants P (who b) p
-  pub looked : Looked P p O A K
+-- and Start is none
+pub record Awaits (L s : List ℕ) (b w : ℕ) (P : Search) : Type 0 where
+  pub lent : Lent L P
+  pub told : Told s b w P
+  pub late : MayStart P (view s) (told .p) (who b) → ⊥
 
-abbrev pub WantsAll : Search → ℕ → ℕ → Type 0
-WantsAll P b word = (p : ℕ) → T (has word p) → Wants P (who b) p
+pub record OnlyOne (s : List ℕ) (b w kills : ℕ) (P : Search) : Type 0 where
+  pub told : Told s b w P
+  pub late : MayStart P (view s) (told .p) (who b) → ⊥
+  pub killers : Killers P (told .p) kills
+
+-- or may be one
+pub record OnlyStart (s : List ℕ) (b w kills : ℕ) (P : Search) : Type 0 where
+  pub told : Told s b w P
+  pub killers : Killers P (told .p) kills

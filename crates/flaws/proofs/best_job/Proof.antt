@@ -1,39 +1,26 @@
-use borrow.Author.Needs.{needs}
 use native.Mathlib.Omega.{arith}
-use Rattle.flaws.proofs.Flaws as fl
-use Prim.Native.Nat.{ℕ, _-_, _≤_}
-use mathlib.Core.Path.{_≡_}
+use Prim.Native.Nat.{ℕ}
+use Rattle.facts.proofs.Sets.{below-pow}
+use Rattle.facts.proofs.Walks.{Done, done-none, Over, over-all, over-next, over-here}
 use Rattle.states.specs.State.{Search}
-use Rattle.flaws.specs.Flaw.{Picks, Scene, SomeSafe, NoneBelow}
+use Rattle.lent.specs.Consumers.{SomeSafe}
+use Rattle.flaws.specs.Flaw.{Picks, Seen}
+use Rattle.flaws.proofs.Flaws.{pick-dead, pick-map, pick-sooner, no-job}
+use borrow.Author.Needs.{needs}
 use Rattle.flaws.proofs.best_job.Statement.{statement}
 use Rattle.flaws.proofs.best_job.Tie as tie
 
 abbrev Inv-loop : tie.InvT-loop
-Inv-loop s b adders dang rest steps best₀ a₀ best a = (a ≤ 24) × ((P : Search) (p : ℕ) → Scene P s p b adders dang rest → Picks s (SomeSafe P s p b) (NoneBelow P s p b a) best)
+Inv-loop s x t best₀ w₀ best w = (P : Search) (p : ℕ) → Seen P s p x → Over 32 (x .cands) w × Picks s (SomeSafe P s p (x .by)) (Done (λ i. ⊥) (x .cands) w) best
 
 abbrev μ-loop : tie.MeasureT-loop
-μ-loop s b adders dang rest steps best₀ a₀ best a = 24 - a
-
-loop-holds : tie.Need-loop-holds Inv-loop μ-loop
-loop-holds c = (omega arith, λ P p k. fl.pick-dead _ (λ a l. absurd (omega arith)))
-
-better-requires : tie.Need-better-requires Inv-loop μ-loop
-better-requires c κs = search needs
+μ-loop s x t best₀ w₀ best w = w
 
 returns : tie.Need-returns Inv-loop μ-loop
-returns c = λ P p k. fl.pick-fine-as (c .before .before .before .before .before .before .args .s) (c .if1 .taken) (c .before .before .better .ensures P p k (c .before .before .before .before .loop .inv .1 P p k))
-
-add-a : tie.Need-add-a Inv-loop μ-loop
-add-a c = search needs
-
-loop-less : tie.Need-loop-less Inv-loop μ-loop
-loop-less c = search needs
+returns c P p k = let i = c .before .before .before .before .before .before .loop .inv P p k in pick-map (λ x. x) absurd (pick-sooner (c .before .before .sooner .ensures) (i .1) (c .before .before .before .offer .ensures P p k (over-here (i .0) (c .before .before .before .before .before .loop-test .taken) (c .before .before .before .before .lowest .ensures))))
 
 loop-again : tie.Need-loop-again Inv-loop μ-loop
-loop-again c = (omega arith, λ P p k. c .before .before .better .ensures P p k (c .before .before .before .before .loop .inv .1 P p k))
-
-returns-2 : tie.Need-returns-2 Inv-loop μ-loop
-returns-2 c = λ P p k. (let e : c .before .loop .a ≡ 24 = omega arith in rw e at (c .before .loop .inv .1 P p k))
+loop-again c P p k = let i = c .before .before .before .before .before .before .before .loop .inv P p k in (over-next (i .0) (c .rest .ensures), pick-map (λ x. x) absurd (pick-sooner (c .before .before .before .sooner .ensures) (i .1) (c .before .before .before .before .offer .ensures P p k (over-here (i .0) (c .before .before .before .before .before .before .loop-test .taken) (c .before .before .before .before .before .lowest .ensures)))))
 
 pub best-job-spec : {M : Type 1} → statement M
 best-job-spec =
@@ -41,10 +28,13 @@ best-job-spec =
     (tie.spec
     Inv-loop
     μ-loop
-    loop-holds
-    better-requires
+    (λ c κs. search needs)
+    (λ c P p k. (over-all (below-pow 32 (c .before .args .x .cands) (λ i h. omega (arith, k .cands .of i h .0))), pick-dead (c .dead .ensures) done-none))
+    (λ c κs. search needs)
+    (λ c κs. search needs)
+    (λ c κs. search needs)
     returns
-    add-a
-    loop-less
+    (λ c κs. search needs)
+    (λ c. c .rest .ensures .less)
     loop-again
-    returns-2)
+    (λ c P p k. pick-map (λ x. x) (λ f. no-job k f (c .loop-test .left)) (c .before .loop .inv P p k .1)))

@@ -1,52 +1,20 @@
-use borrow.Author.Needs.{needs}
-use native.Mathlib.Omega.{arith}
-use Rattle.flaws.proofs.Flaws as fl
-use Prim.Native.Nat.{_-_, _<_, _≤_}
-use borrow.Author.Count.{below-more}
-use Rattle.facts.proofs.Sets.{has-lt}
+use Rattle.facts.proofs.Walks.{Done, done-none, done-next}
+use lib.Dec.{T}
+use Rattle.facts.specs.Facts.{has}
 use Rattle.states.specs.State.{Search}
-use Rattle.flaws.specs.Flaw.{Picks, Lists, SafeBelow, OneLost}
+use Rattle.lent.specs.Lent.{Lent, wantsOf}
+use Rattle.lent.specs.Consumers.{SomeSafe}
+use Rattle.flaws.specs.Flaw.{Picks, OneLost}
+use Rattle.flaws.proofs.Flaws.{pick-fine, pick-map, pick-urgent, done-own}
+use borrow.Author.Needs.{needs}
 use Rattle.flaws.proofs.conditions.Statement.{statement}
 use Rattle.flaws.proofs.conditions.Tie as tie
 
 abbrev Inv-loop : tie.InvT-loop
-Inv-loop s b word opening adders killers steps best₀ p₀ best p = (p ≤ 64) × ((P : Search) → Lists P opening adders killers → Picks s (SafeBelow P s b word p) (OneLost P s b word) best)
+Inv-loop s b t best₀ w₀ best w = (P : Search) → Lent t P → Picks s (Done (λ p. T (has (wantsOf t b) p) → SomeSafe P s p b) (wantsOf t b) w) (OneLost P s b (wantsOf t b)) best
 
 abbrev μ-loop : tie.MeasureT-loop
-μ-loop s b word opening adders killers steps best₀ p₀ best p = 64 - p
-
-loop-holds : tie.Need-loop-holds Inv-loop μ-loop
-loop-holds c = (omega arith, λ P l. fl.pick-fine _ (λ p h. absurd (omega arith)))
-
-mul-condition-at : tie.Need-mul-condition-at Inv-loop μ-loop
-mul-condition-at c = search needs
-
-shared-slice-read-condition-at : tie.Need-shared-slice-read-condition-at Inv-loop μ-loop
-shared-slice-read-condition-at c = search needs
-
-mul-condition-at-2 : tie.Need-mul-condition-at-2 Inv-loop μ-loop
-mul-condition-at-2 c = search needs
-
-shared-slice-read-condition-at-2 : tie.Need-shared-slice-read-condition-at-2 Inv-loop μ-loop
-shared-slice-read-condition-at-2 c = search needs
-
-condition-at-requires : tie.Need-condition-at-requires Inv-loop μ-loop
-condition-at-requires c κs = search needs
-
-urgent-requires : tie.Need-urgent-requires Inv-loop μ-loop
-urgent-requires c κs = search needs
-
-add-p : tie.Need-add-p Inv-loop μ-loop
-add-p c = search needs
-
-loop-less : tie.Need-loop-less Inv-loop μ-loop
-loop-less c = search needs
-
-loop-again : tie.Need-loop-again Inv-loop μ-loop
-loop-again c = (omega arith, λ P l. fl.pick-map (c .before .before .before .before .before .before .before .before .before .args .s) (λ x. below-more _ _ (x .0) (x .1)) (λ n. n) (fl.pick-urgent (c .before .before .before .before .before .before .before .before .before .args .s) (c .urgent .ensures) (c .before .before .before .before .before .loop .inv .1 P l) (c .before .condition-at .ensures P (fl.looked l (c .before .before .before .before .before .loop .p) (omega arith)))))
-
-returns : tie.Need-returns Inv-loop μ-loop
-returns c = λ P l. fl.pick-map (c .before .before .before .before .before .args .s) (λ f p h. (let k : p < 64 = has-lt 64 (c .before .before .before .before .before .args .word) p (search needs) h in f p (omega arith) h)) (λ n. n) (c .before .loop .inv .1 P l)
+μ-loop s b t best₀ w₀ best w = w
 
 pub conditions-spec : {M : Type 1} → statement M
 conditions-spec =
@@ -54,14 +22,13 @@ conditions-spec =
     (tie.spec
     Inv-loop
     μ-loop
-    loop-holds
-    mul-condition-at
-    shared-slice-read-condition-at
-    mul-condition-at-2
-    shared-slice-read-condition-at-2
-    condition-at-requires
-    urgent-requires
-    add-p
-    loop-less
-    loop-again
-    returns)
+    (λ c κs. search needs)
+    (λ c κs. search needs)
+    (λ c P e. rw (c .wants .ensures) (pick-fine (c .before .fine .ensures) done-none))
+    (λ c κs. search needs)
+    (λ c κs. search needs)
+    (λ c κs. search needs)
+    (λ c κs. search needs)
+    (λ c. c .rest .ensures .less)
+    (λ c P e. pick-map (λ x. done-next (x .0) (c .rest .ensures) (rw (c .before .before .before .first .ensures) at (x .1))) (λ n. n) (pick-urgent (c .before .urgent .ensures) (c .before .before .before .before .before .loop .inv P e) (c .before .before .condition .ensures P e)))
+    (λ c P e. pick-map (λ f. done-own f (c .loop-test .left)) (λ n. n) (c .before .loop .inv P e)))

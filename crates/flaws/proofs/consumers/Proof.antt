@@ -1,40 +1,23 @@
-use borrow.Author.Needs.{needs}
 use native.Mathlib.Omega.{arith}
-use Rattle.flaws.proofs.Flaws as fl
 use Prim.Native.Nat.{_-_, _≤_}
 use borrow.Author.Count.{below-more}
 use Rattle.states.specs.State.{Search, Dead}
-use Rattle.orders.specs.View.{view}
-use Rattle.flaws.specs.Flaw.{Picks, Known, SafeBelowW}
+use Rattle.cells.specs.View.{view}
+use Rattle.lent.specs.Lent.{Lent}
+use Rattle.flaws.specs.Flaw.{Picks, SafeBelow}
+use Rattle.flaws.proofs.Flaws.{pick-fine, pick-map, pick-urgent}
+use borrow.Author.Needs.{needs}
 use Rattle.flaws.proofs.consumers.Statement.{statement}
 use Rattle.flaws.proofs.consumers.Tie as tie
 
 abbrev Inv-loop : tie.InvT-loop
-Inv-loop s ask conds adders killers steps best₀ b₀ best b = (b ≤ 25) × ((P : Search) → Known conds adders killers ask P → Picks s (SafeBelowW P s b) (Dead P (view s)) best)
+Inv-loop s t best₀ b₀ best b = (b ≤ 25) × ((P : Search) → Lent t P → Picks s (SafeBelow P s b) (Dead P (view s)) best)
 
 abbrev μ-loop : tie.MeasureT-loop
-μ-loop s ask conds adders killers steps best₀ b₀ best b = 25 - b
-
-loop-holds : tie.Need-loop-holds Inv-loop μ-loop
-loop-holds c = (omega arith, λ P k. fl.pick-fine _ (λ b h. absurd (omega arith)))
-
-consumer-at-requires : tie.Need-consumer-at-requires Inv-loop μ-loop
-consumer-at-requires c κs = search needs
-
-urgent-requires : tie.Need-urgent-requires Inv-loop μ-loop
-urgent-requires c κs = search needs
-
-add-b : tie.Need-add-b Inv-loop μ-loop
-add-b c = search needs
-
-loop-less : tie.Need-loop-less Inv-loop μ-loop
-loop-less c = search needs
+μ-loop s t best₀ b₀ best b = 25 - b
 
 loop-again : tie.Need-loop-again Inv-loop μ-loop
-loop-again c = (omega arith, λ P k. fl.pick-map (c .before .before .before .before .before .before .before .before .args .s) (λ x. below-more _ _ (x .0) (x .1)) (λ n. n) (fl.pick-urgent (c .before .before .before .before .before .before .before .before .args .s) (c .urgent .ensures) (c .before .before .before .loop .inv .1 P k) (c .before .consumer-at .ensures P k)))
-
-returns : tie.Need-returns Inv-loop μ-loop
-returns c = λ P k. fl.pick-map (c .before .before .before .before .before .before .args .s) (λ f b l. f b (omega arith)) (λ n. n) (c .before .loop .inv .1 P k)
+loop-again c = (omega arith, λ P e. pick-map (λ x. below-more _ _ (x .0) (x .1)) (λ n. n) (pick-urgent (c .urgent .ensures) (c .before .before .before .loop .inv .1 P e) (c .before .consumer .ensures P e)))
 
 pub consumers-spec : {M : Type 1} → statement M
 consumers-spec =
@@ -42,10 +25,11 @@ consumers-spec =
     (tie.spec
     Inv-loop
     μ-loop
-    loop-holds
-    consumer-at-requires
-    urgent-requires
-    add-b
-    loop-less
+    (λ c κs. search needs)
+    (λ c. (omega arith, λ P e. pick-fine (c .fine .ensures) (λ b l. absurd (omega arith))))
+    (λ c κs. search needs)
+    (λ c κs. search needs)
+    (λ c. search needs)
+    (λ c. search needs)
     loop-again
-    returns)
+    (λ c P e. pick-map (λ f b l. f b (omega arith)) (λ n. n) (c .before .loop .inv .1 P e)))

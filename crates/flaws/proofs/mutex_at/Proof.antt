@@ -1,67 +1,45 @@
-use borrow.Author.Needs.{needs}
 use native.Mathlib.Omega.{arith}
-use Rattle.orders.specs.View.{view}
-use Rattle.orders.proofs.Tests.{passed, failed}
-use Rattle.facts.specs.Facts.{has}
+use denote.Ref.{now}
 use Rattle.states.proofs.Rules as rules
-use Rattle.flaws.proofs.Flaws as fl
+use Rattle.cells.specs.View.{view}
+use Rattle.cells.proofs.Tests.{passed, failed}
+use Rattle.flaws.proofs.Flaws.{pick-fine, pick-pair, pick-dead, tangled}
+use borrow.Author.Needs.{needs}
 use Rattle.flaws.proofs.mutex_at.Statement.{statement}
 use Rattle.flaws.proofs.mutex_at.Tie as tie
 
-ordered-requires : tie.Need-ordered-requires
-ordered-requires c κs = search needs
-
-returns : tie.Need-returns
-returns c P wf x = fl.pick-fine (c .before .before .args .t1) (c .before .ordered .ensures .yea (c .if1 .taken))
-
-mul-n : tie.Need-mul-n
-mul-n c = search needs
-
-element-copy-out-n : tie.Need-element-copy-out-n
-element-copy-out-n c = search needs
-
-has-requires : tie.Need-has-requires
-has-requires c κs = search needs
-
-returns-2 : tie.Need-returns-2
-returns-2 c P wf x =
-    let a = c .before .before .before .before .before .args in
-    let z = fl.loose (a .t1) (a .a) (a .b) (c .before .before .before .before .ordered .ensures .nay (c .before .before .before .if1 .left)) in
-    fl.pick-pair (a .t1) (record { first = omega arith; second = omega arith; free = record { unsure = z .unsure; possible = failed (c .before .has .ensures) (c .if2 .taken) } })
-
-mul-m : tie.Need-mul-m
-mul-m c = search needs
-
-element-copy-out-m : tie.Need-element-copy-out-m
-element-copy-out-m c = search needs
-
-has-requires-2 : tie.Need-has-requires-2
-has-requires-2 c κs = search needs
-
 returns-3 : tie.Need-returns-3
-returns-3 c P wf x =
-    let a = c .before .before .before .before .before .before .before .before .args in
-    let z = fl.loose (a .t1) (a .a) (a .b) (c .before .before .before .before .before .before .before .ordered .ensures .nay (c .before .before .before .before .before .before .if1 .left)) in
-    fl.pick-pair (a .t1) (record { first = omega arith; second = omega arith; free = record { unsure = z .turned; possible = failed (c .before .has2 .ensures) (c .if3 .taken) } })
+returns-3 c P k =
+    let a = c .before .before .before .before .before .before .args in
+    let z = tangled (now (a .s)) (a .a) (a .b) (c .before .before .before .before .ordered .ensures .nay (c .before .before .before .if2 .left)) in
+    pick-pair (c .pair .ensures) (record { first = omega arith; second = omega arith; free = record { unsure = z .unsure; possible = failed (c .before .before .never .ensures) (c .before .if3 .taken) } })
 
 returns-4 : tie.Need-returns-4
-returns-4 c P wf x =
+returns-4 c P k =
     let a = c .before .before .before .before .before .before .before .before .args in
-    let z = fl.loose (a .t1) (a .a) (a .b) (c .before .before .before .before .before .before .before .ordered .ensures .nay (c .before .before .before .before .before .before .if1 .left)) in
-    fl.pick-dead (a .t1) (rules.stuck P wf (view (a .t1)) (a .a) (a .b) (z .first) (z .second) x (passed (c .before .before .before .before .has .ensures) (c .before .before .before .if2 .left)) (passed (c .before .has2 .ensures) (c .if3 .left)))
+    let z = tangled (now (a .s)) (a .a) (a .b) (c .before .before .before .before .before .before .ordered .ensures .nay (c .before .before .before .before .before .if2 .left)) in
+    pick-pair (c .pair2 .ensures) (record { first = omega arith; second = omega arith; free = record { unsure = z .turned; possible = failed (c .before .before .never2 .ensures) (c .before .if4 .taken) } })
+
+returns-5 : tie.Need-returns-5
+returns-5 c P k =
+    let a = c .before .before .before .before .before .before .before .before .args in
+    let z = tangled (now (a .s)) (a .a) (a .b) (c .before .before .before .before .before .before .ordered .ensures .nay (c .before .before .before .before .before .if2 .left)) in
+    pick-dead (c .dead .ensures) (rules.stuck P (k .wf) (view (now (a .s))) (a .a) (a .b) (z .first) (z .second) (k .meet) (passed (c .before .before .before .before .never .ensures) (c .before .before .before .if3 .left)) (passed (c .before .before .never2 .ensures) (c .before .if4 .left)))
 
 pub mutex-at-spec : {M : Type 1} → statement M
 mutex-at-spec =
     tie.close
     (tie.spec
-    ordered-requires
-    returns
-    mul-n
-    element-copy-out-n
-    has-requires
-    returns-2
-    mul-m
-    element-copy-out-m
-    has-requires-2
+    (λ c κs. search needs)
+    (λ c P k. pick-fine (c .fine .ensures) (λ l. absurd (omega arith)))
+    (λ c κs. search needs)
+    (λ c κs. search needs)
+    (λ c P k. pick-fine (c .fine2 .ensures) (λ l. c .before .before .ordered .ensures .yea (c .before .if2 .taken)))
+    (λ c κs. search needs)
+    (λ c κs. search needs)
     returns-3
-    returns-4)
+    (λ c κs. search needs)
+    (λ c κs. search needs)
+    returns-4
+    (λ c κs. search needs)
+    returns-5)

@@ -1,46 +1,18 @@
-use native.Mathlib.Omega.{arith}
-use Prim.Native.Nat.{_-_, _≤_}
-use borrow.Author.Needs.{needs}
-use borrow.Author.Count.{below-more}
+use Rattle.facts.proofs.Walks.{Done, done-none, done-next, done-all}
 use Rattle.states.specs.State.{Search}
-use Rattle.rules.specs.Table.{InOrder}
-use Rattle.flaws.specs.Flaw.{AllOrdered, AllHits}
-use Rattle.flaws.proofs.Flaws as fl
+use Rattle.cells.specs.View.{word, ins}
+use Rattle.lent.specs.Lent.{Lent}
+use Rattle.flaws.specs.Flaw.{RowApart}
+use Rattle.flaws.proofs.Flaws.{pick-fine, pick-not}
+use borrow.Author.Needs.{needs}
 use Rattle.flaws.proofs.mutexes.Statement.{statement}
 use Rattle.flaws.proofs.mutexes.Tie as tie
 
 abbrev Inv-loop : tie.InvT-loop
-Inv-loop s hits a₀ a = (a ≤ 24) × ((P : Search) → InOrder (P .problem) → AllHits hits P → AllOrdered s hits a)
+Inv-loop s t w₀ w = (P : Search) → Lent t P → Done (RowApart s t) (word s ins) w
 
 abbrev μ-loop : tie.MeasureT-loop
-μ-loop s hits a₀ a = 24 - a
-
-loop-holds : tie.Need-loop-holds Inv-loop μ-loop
-loop-holds c = (omega arith, λ P wf h a l. absurd (omega arith))
-
-mul-mutex-row : tie.Need-mul-mutex-row Inv-loop μ-loop
-mul-mutex-row c = search needs
-
-shared-slice-read-mutex-row : tie.Need-shared-slice-read-mutex-row Inv-loop μ-loop
-shared-slice-read-mutex-row c = search needs
-
-mutex-row-requires : tie.Need-mutex-row-requires Inv-loop μ-loop
-mutex-row-requires c κs = search needs
-
-returns : tie.Need-returns Inv-loop μ-loop
-returns c P wf h = fl.pick-not (c .before .before .before .before .before .before .before .args .s) (c .if1 .taken) (c .before .before .mutex-row .ensures P wf (h (c .before .before .before .before .before .loop .a) (omega arith)))
-
-add-a : tie.Need-add-a Inv-loop μ-loop
-add-a c = search needs
-
-loop-less : tie.Need-loop-less Inv-loop μ-loop
-loop-less c = search needs
-
-loop-again : tie.Need-loop-again Inv-loop μ-loop
-loop-again c = (omega arith, λ P wf h. below-more _ _ (c .before .before .before .before .before .loop .inv .1 P wf h) (c .before .before .mutex-row .ensures P wf (h (c .before .before .before .before .before .loop .a) (omega arith)) .fine (c .if1 .left)))
-
-returns-2 : tie.Need-returns-2 Inv-loop μ-loop
-returns-2 c P wf h = fl.pick-fine (c .before .before .before .args .s) (λ a l. c .before .loop .inv .1 P wf h a (omega arith))
+μ-loop s t w₀ w = w
 
 pub mutexes-spec : {M : Type 1} → statement M
 mutexes-spec =
@@ -48,12 +20,13 @@ mutexes-spec =
     (tie.spec
     Inv-loop
     μ-loop
-    loop-holds
-    mul-mutex-row
-    shared-slice-read-mutex-row
-    mutex-row-requires
-    returns
-    add-a
-    loop-less
-    loop-again
-    returns-2)
+    (λ c κs. search needs)
+    (λ c P e. rw (c .insides .ensures) done-none)
+    (λ c κs. search needs)
+    (λ c κs. search needs)
+    (λ c P e. pick-not (c .if1 .taken) (c .before .before .mutex-row .ensures P e))
+    (λ c κs. search needs)
+    (λ c. c .rest .ensures .less)
+    (λ c P e. done-next (c .before .before .before .before .before .before .loop .inv P e) (c .rest .ensures) (rw (c .before .before .before .before .lowest .ensures) at (c .before .before .before .mutex-row .ensures P e .fine (c .before .if1 .left))))
+    (λ c κs. search needs)
+    (λ c P e. pick-fine (c .fine .ensures) (λ a b l k h i. done-all (c .before .before .loop .inv P e) (c .before .loop-test .left) a i l b k h i)))

@@ -1,28 +1,32 @@
+use Rattle.cells.proofs.Changes.{then, under}
+use Rattle.cells.proofs.Tests.{same}
+use native.Mathlib.Omega.{arith}
 use borrow.Author.Needs.{needs}
-use Rattle.states.proofs.Keep.{keeps-trans}
 use Rattle.orders.proofs.pair.Statement.{statement}
 use Rattle.orders.proofs.pair.Tie as tie
 
-push-requires : tie.Need-push-requires
-push-requires c κs = search needs
-
-pull-requires : tie.Need-pull-requires
-pull-requires c κs = search needs
-
-far-requires : tie.Need-far-requires
-far-requires c κs = search needs
-
-orders-requires : tie.Need-orders-requires
-orders-requires c κs = search needs
-
-clash-requires : tie.Need-clash-requires
-clash-requires c κs = search needs
-
 returns : tie.Need-returns
-returns c P wf e h =
-    keeps-trans (c .before .before .before .before .push .ensures P wf e) (keeps-trans (c .before .before .before .pull .ensures P wf e) (keeps-trans (c .before .before .far .ensures P wf e) (keeps-trans (c .before .orders .ensures P wf h) (c .clash .ensures P wf tt))))
+returns c =
+    let a = c .before .before .before .before .before .before .before .before .before .before .before .before .before .args in
+    let step = c .before .before .before .before .before .before .before .before .before .before .before .before .step .ensures in
+    let push = c .before .before .before .before .before .before .before .before .before .before .push .ensures in
+    let pull = c .before .before .before .before .before .before .before .before .pull .ensures in
+    let far = c .before .before .before .before .before .before .far .ensures in
+    let hits = c .before .before .before .before .hits .ensures in
+    then (under (λ P wf e. rw step (e .listed .steps (a .a) (omega arith))) (then push (then pull far)))
+    (then (under (λ P wf e h. e .listed .clash (a .a) (a .b) (omega arith) (rw hits at (same (c .before .before .before .has .ensures) h))) (c .before .before .orders .ensures))
+    (under (λ P wf e. tt) (c .clash .ensures)))
 
 pub pair-spec : {M : Type 1} → statement M
 pair-spec =
     tie.close
-    (tie.spec push-requires pull-requires far-requires orders-requires clash-requires returns)
+    (tie.spec
+    (λ c κs. search needs)
+    (λ c κs. search needs)
+    (λ c κs. search needs)
+    (λ c κs. search needs)
+    (λ c κs. search needs)
+    (λ c κs. search needs)
+    (λ c κs. search needs)
+    (λ c κs. search needs)
+    returns)

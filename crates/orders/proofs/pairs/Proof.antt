@@ -1,41 +1,17 @@
+use Rattle.cells.proofs.Changes.{none, then}
+use native.Mathlib.Omega.{arith}
+use Rattle.cells.specs.View.{Prunes}
+use Rattle.lent.specs.Lent.{Lent}
 use Prim.Native.Nat.{_-_, _≤_}
 use borrow.Author.Needs.{needs}
-use Rattle.orders.specs.declared.State.{State}
-use Rattle.orders.specs.View.{view, Prunes, Tabled}
-use Rattle.states.proofs.Keep.{keeps-refl, keeps-trans}
-use Rattle.states.specs.State.{Keeps}
-use mathlib.Core.Logic.{⊎-elim}
-use mathlib.Core.Path.{sym, subst}
-use native.Mathlib.Omega.{arith}
 use Rattle.orders.proofs.pairs.Statement.{statement}
 use Rattle.orders.proofs.pairs.Tie as tie
 
 abbrev Inv-loop : tie.InvT-loop
-Inv-loop steps hits t₀ b₀ t b = (b ≤ 24) × Prunes (Tabled steps hits) t₀ t
+Inv-loop s₀ t b₀ s b = (b ≤ 24) × Prunes (Lent t) s₀ s
 
 abbrev μ-loop : tie.MeasureT-loop
-μ-loop steps hits t₀ b₀ t b = 24 - b
-
-loop-holds : tie.Need-loop-holds Inv-loop μ-loop
-loop-holds c = (omega arith, λ P wf e. keeps-refl _)
-
-has-requires : tie.Need-has-requires Inv-loop μ-loop
-has-requires c κs = search needs
-
-pairs-at-requires : tie.Need-pairs-at-requires Inv-loop μ-loop
-pairs-at-requires c κs = search needs
-
-add-b : tie.Need-add-b Inv-loop μ-loop
-add-b c = search needs
-
-loop-less : tie.Need-loop-less Inv-loop μ-loop
-loop-less c = search needs
-
-loop-again : tie.Need-loop-again Inv-loop μ-loop
-loop-again c = let l = c .before .before .before .loop in (omega arith, λ P wf e. keeps-trans (l .inv .1 P wf e) (⊎-elim (λ w. subst (λ (t : State). Keeps P (view (l .t)) (view t)) (sym (w .2)) (w .1 .ensures P wf e)) (λ w. subst (λ (t : State). Keeps P (view (l .t)) (view t)) (sym (w .1)) (keeps-refl _)) (c .if1 .came)))
-
-returns : tie.Need-returns Inv-loop μ-loop
-returns c = search needs
+μ-loop s₀ t b₀ s b = 24 - b
 
 pub pairs-spec : {M : Type 1} → statement M
 pairs-spec =
@@ -43,10 +19,9 @@ pairs-spec =
     (tie.spec
     Inv-loop
     μ-loop
-    loop-holds
-    has-requires
-    pairs-at-requires
-    add-b
-    loop-less
-    loop-again
-    returns)
+    (λ c. (omega arith, none))
+    (λ c κs. search needs)
+    (λ c. search needs)
+    (λ c. search needs)
+    (λ c. (omega arith, then (c .before .before .before .loop .inv .1) (c .pairs-at .ensures)))
+    (λ c. c .before .loop .inv .1))

@@ -1,41 +1,14 @@
-use Rattle.orders.specs.declared.State.{State}
-use Rattle.orders.specs.View.{view, Prunes, Any}
-use Rattle.states.proofs.Keep.{keeps-refl, keeps-trans}
-use Rattle.states.specs.State.{Keeps}
-use mathlib.Core.Logic.{⊎-elim}
-use mathlib.Core.Path.{sym, subst}
-use native.Mathlib.Omega.{arith}
-use Prim.Native.Nat.{_-_, _≤_}
+use Rattle.cells.proofs.Changes.{none, then}
+use Rattle.cells.specs.View.{Prunes, Any}
 use borrow.Author.Needs.{needs}
 use Rattle.orders.proofs.through_all.Statement.{statement}
 use Rattle.orders.proofs.through_all.Tie as tie
 
 abbrev Inv-loop : tie.InvT-loop
-Inv-loop b t₀ m₀ t m = (m ≤ 24) × Prunes Any t₀ t
+Inv-loop s₀ b w₀ s w = Prunes Any s₀ s
 
 abbrev μ-loop : tie.MeasureT-loop
-μ-loop b t₀ m₀ t m = 24 - m
-
-loop-holds : tie.Need-loop-holds Inv-loop μ-loop
-loop-holds c = (omega arith, λ P wf e. keeps-refl _)
-
-has-requires : tie.Need-has-requires Inv-loop μ-loop
-has-requires c κs = search needs
-
-through-requires : tie.Need-through-requires Inv-loop μ-loop
-through-requires c κs = search needs
-
-add-m : tie.Need-add-m Inv-loop μ-loop
-add-m c = search needs
-
-loop-less : tie.Need-loop-less Inv-loop μ-loop
-loop-less c = search needs
-
-loop-again : tie.Need-loop-again Inv-loop μ-loop
-loop-again c = let l = c .before .before .before .loop in (omega arith, λ P wf e. keeps-trans (l .inv .1 P wf e) (⊎-elim (λ w. subst (λ (t : State). Keeps P (view (l .t)) (view t)) (sym (w .2)) (w .1 .ensures P wf e)) (λ w. subst (λ (t : State). Keeps P (view (l .t)) (view t)) (sym (w .1)) (keeps-refl _)) (c .if1 .came)))
-
-returns : tie.Need-returns Inv-loop μ-loop
-returns c = search needs
+μ-loop s₀ b w₀ s w = w
 
 pub through-all-spec : {M : Type 1} → statement M
 through-all-spec =
@@ -43,10 +16,12 @@ through-all-spec =
     (tie.spec
     Inv-loop
     μ-loop
-    loop-holds
-    has-requires
-    through-requires
-    add-m
-    loop-less
-    loop-again
-    returns)
+    (λ c κs. search needs)
+    (λ c κs. search needs)
+    (λ c. none)
+    (λ c κs. search needs)
+    (λ c κs. search needs)
+    (λ c κs. search needs)
+    (λ c. c .rest .ensures .less)
+    (λ c. then (c .before .before .before .before .before .loop .inv) (c .before .through .ensures))
+    (λ c. c .before .loop .inv))

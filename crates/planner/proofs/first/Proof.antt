@@ -1,42 +1,27 @@
-use native.Mathlib.Omega.{arith}
-use Prim.Native.Nat.{_-_, _≤_}
-use mathlib.Core.Path.{_≡_}
-use borrow.Author.Tests.{not-true, not-false}
-use Rattle.flaws.specs.Flaw.{Lent}
+use Rattle.planner.proofs.Laws.{first-begin, first-none, first-done}
 use Rattle.planner.specs.Planner.{Begins}
-use Rattle.planner.proofs.Laws as ll
+use Rattle.lent.specs.Lent.{Lent}
+use Prim.Native.Nat.{_-_, _≤_}
+use native.Mathlib.Omega.{arith}
+use borrow.Author.Tests.{not-true, not-false}
+use borrow.Author.Needs.{needs}
 use Rattle.planner.proofs.first.Statement.{statement}
 use Rattle.planner.proofs.first.Tie as tie
 
 abbrev Inv-loop : tie.InvT-loop
-Inv-loop ask conds adders killers steps hits ok base₀ f₀ n k₀ base f k = (k ≤ ask .count) × Begins (Lent conds adders killers steps hits ask) k base f
+Inv-loop root₀ t out₀ n k₀ root out k = (k ≤ n) × Begins (Lent t) k root out
 
 abbrev μ-loop : tie.MeasureT-loop
-μ-loop ask conds adders killers steps hits ok base₀ f₀ n k₀ base f k = ask .count - k
-
-find-plan-requires : tie.Need-find-plan-requires Inv-loop μ-loop
-find-plan-requires c κs = c .before .before .before .before .before .pre .1
-
-returns : tie.Need-returns Inv-loop μ-loop
-returns c = ll.first-none (Lent (c .before .before .before .before .before .before .before .args .conds .now) (c .before .before .before .before .before .before .before .args .adders .now) (c .before .before .before .before .before .before .before .args .killers .now) (c .before .before .before .before .before .before .before .args .steps .now) (c .before .before .before .before .before .before .before .args .hits .now) (c .before .before .before .before .before .before .before .args .ask)) ll.wf-of (c .before .before .before .before .before .before .before .args .ask .count) ll.count-of (c .before .before .before .before .before .before .before .args .root) (c .before .before .before .before .before .before .before .pre .0) (c .before .find-plan .ensures) (not-true _ (c .if1 .taken))
+μ-loop root₀ t out₀ n k₀ root out k = n - k
 
 loop-holds : tie.Need-loop-holds Inv-loop μ-loop
-loop-holds c = (omega arith, ll.first-begin (Lent (c .before .before .before .before .before .before .before .before .args .conds .now) (c .before .before .before .before .before .before .before .before .args .adders .now) (c .before .before .before .before .before .before .before .before .args .killers .now) (c .before .before .before .before .before .before .before .before .args .steps .now) (c .before .before .before .before .before .before .before .before .args .hits .now) (c .before .before .before .before .before .before .before .before .args .ask)) ll.wf-of (c .before .before .before .before .before .before .before .before .args .ask .count) ll.count-of (c .before .before .before .before .before .before .before .before .args .root) (c .before .before .before .before .before .before .before .before .pre .0) (c .before .before .find-plan .ensures) (not-false _ (c .before .if1 .left)))
+loop-holds c = (omega arith, first-begin (c .before .before .before .before .before .before .pre .0) (c .before .before .find-plan .ensures) (not-false _ (c .before .if1 .left)))
 
 settle-job-requires : tie.Need-settle-job-requires Inv-loop μ-loop
-settle-job-requires c κs = (c .before .loop .inv .1, (omega (arith, c .before .before .before .before .before .before .before .before .before .before .pre .1 .1 .1 .known .count, c .before .before .before .before .before .before .before .before .before .before .pre .1 .1 .1 .known .count-is), (omega arith, c .before .before .before .before .before .before .before .before .before .before .pre .1)))
+settle-job-requires c κs = let some = c .before .before .before .before .before .before .before .before .before .before .pre .1 in (c .before .before .before .loop .inv .1, omega (arith, some .1 .listed .few, some .1 .listed .count, c .before .before .before .before .count .ensures), omega (arith, c .before .before .before .before .count .ensures), some)
 
 add-k : tie.Need-add-k Inv-loop μ-loop
-add-k c = omega (arith, c .before .before .before .before .before .before .before .before .before .before .before .before .before .pre .1 .1 .1 .known .count, c .before .before .before .before .before .before .before .before .before .before .before .before .before .pre .1 .1 .1 .known .count-is)
-
-loop-less : tie.Need-loop-less Inv-loop μ-loop
-loop-less c = omega arith
-
-loop-again : tie.Need-loop-again Inv-loop μ-loop
-loop-again c = (omega arith, c .before .before .settle-job .ensures)
-
-returns-2 : tie.Need-returns-2 Inv-loop μ-loop
-returns-2 c = let e : c .before .loop .k ≡ c .before .before .before .before .before .before .before .before .before .before .args .ask .count = omega arith in ll.first-done (Lent (c .before .before .before .before .before .before .before .before .before .before .args .conds .now) (c .before .before .before .before .before .before .before .before .before .before .args .adders .now) (c .before .before .before .before .before .before .before .before .before .before .args .killers .now) (c .before .before .before .before .before .before .before .before .before .before .args .steps .now) (c .before .before .before .before .before .before .before .before .before .before .args .hits .now) (c .before .before .before .before .before .before .before .before .before .before .args .ask)) ll.wf-of (c .before .before .before .before .before .before .before .before .before .before .args .ask .count) ll.count-of (c .before .before .before .before .before .before .before .before .before .before .args .root) (c .before .before .before .before .before .before .before .before .before .before .pre .0) (c .before .loop .base) (c .before .loop .f) (rw e at (c .before .loop .inv .1))
+add-k c = let some = c .before .before .before .before .before .before .before .before .before .before .before .pre .1 in omega (arith, some .1 .listed .few, some .1 .listed .count, c .before .before .before .before .before .count .ensures)
 
 pub first-spec : {M : Type 1} → statement M
 first-spec =
@@ -44,11 +29,12 @@ first-spec =
     (tie.spec
     Inv-loop
     μ-loop
-    find-plan-requires
-    returns
+    (λ c κs. c .before .before .before .pre .1)
+    (λ c. first-none (c .before .before .before .before .before .pre .0) (c .before .find-plan .ensures) (not-true _ (c .if1 .taken)))
+    (λ c κs. search needs)
     loop-holds
     settle-job-requires
     add-k
-    loop-less
-    loop-again
-    returns-2)
+    (λ c. search needs)
+    (λ c. (omega arith, c .settle-job .ensures))
+    (λ c. first-done (omega (arith, c .before .before .count .ensures, c .before .loop .inv .0)) (c .before .loop .inv .1)))

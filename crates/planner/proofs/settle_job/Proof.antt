@@ -1,66 +1,41 @@
-use borrow.Author.Needs.{needs}
+use Rattle.planner.proofs.Laws.{out-of, lower-ok, in-window, step-out, step-change, step-in}
 use native.Mathlib.Omega.{arith}
-use mathlib.Core.Path.{_≡_, _∙_}
-use lib.ListN.{length}
-use Rattle.facts.proofs.Lists.{getD-any}
-use Rattle.flaws.specs.Flaw.{Lent}
-use Rattle.planner.proofs.Laws as ll
+use mathlib.Core.Path.{sym, _∙_}
+use denote.Ref.{now}
+use borrow.Author.Needs.{needs}
 use Rattle.planner.proofs.settle_job.Statement.{statement}
 use Rattle.planner.proofs.settle_job.Tie as tie
 
-mul-t : tie.Need-mul-t
-mul-t c = search needs
-
-array-read-t : tie.Need-array-read-t
-array-read-t c = search needs
-
-put-barred-requires : tie.Need-put-barred-requires
-put-barred-requires c κs = search needs
-
 returns : tie.Need-returns
-returns c = ll.step-out (Lent (c .before .before .before .before .before .before .before .args .conds .now) (c .before .before .before .before .before .before .before .args .adders .now) (c .before .before .before .before .before .before .before .args .killers .now) (c .before .before .before .before .before .before .before .args .steps .now) (c .before .before .before .before .before .before .before .args .hits .now) (c .before .before .before .before .before .before .before .args .ask)) ll.wf-of (c .before .before .before .before .before .before .before .args .ask .count) ll.count-of (c .before .before .before .before .before .before .before .args .base) (c .before .before .before .before .before .before .before .args .k) (c .before .before .before .before .before .before .before .args .t3) (c .before .before .before .before .before .before .before .pre .1 .1 .0) (c .before .before .before .before .before .before .before .pre .0) (λ P o. ll.out-of (c .before .before .before .before .before .before .before .args .k) (c .before .before .before .before .before .before .before .args .t3) (getD-any (c .before .before .before .before .before .before .before .args .t3) (c .before .before .before .before .before .before .before .args .k) 65535 0 (search needs) ∙ c .if1 .taken) P) (c .before .put-barred .ensures)
-
-try-without-requires : tie.Need-try-without-requires
-try-without-requires c κs = search needs
+returns c = let a = (c .before .before .before .before .before .args) in let pre = (c .before .before .before .before .before .pre) in step-out (pre .2) (pre .0) (λ P o. out-of (a .k) (now (a .out)) (sym (c .before .before .before .start-of .ensures) ∙ c .before .before .if1 .taken) P) (c .put-barred .ensures)
 
 returns-2 : tie.Need-returns-2
-returns-2 c = ll.step-change (Lent (c .before .before .before .before .before .before .before .before .before .before .args .conds .now) (c .before .before .before .before .before .before .before .before .before .before .args .adders .now) (c .before .before .before .before .before .before .before .before .before .before .args .killers .now) (c .before .before .before .before .before .before .before .before .before .before .args .steps .now) (c .before .before .before .before .before .before .before .before .before .before .args .hits .now) (c .before .before .before .before .before .before .before .before .before .before .args .ask)) ll.wf-of (c .before .before .before .before .before .before .before .before .before .before .args .ask .count) ll.count-of (c .before .before .before .before .before .before .before .before .before .before .args .base) (c .before .before .before .before .before .before .before .before .before .before .args .k) (c .before .before .before .before .before .before .before .before .before .before .args .t3) (c .before .before .before .before .before .before .before .before .before .before .pre .1 .1 .0) (c .before .before .before .before .before .before .before .before .before .before .pre .0) (c .before .before .try-without .ensures) (c .before .if2 .taken) (c .before .before .before .before .put-barred .ensures)
+returns-2 c = step-change (c .before .before .before .before .before .before .before .before .before .pre .2) (c .before .before .before .before .before .before .before .before .before .pre .0) (c .before .before .before .try-without .ensures) (c .before .before .if2 .taken) (c .put-barred2 .ensures)
 
 lower-requires : tie.Need-lower-requires
-lower-requires c κs = (ll.lower-ok (Lent (c .before .before .before .before .before .before .before .before .before .args .conds .now) (c .before .before .before .before .before .before .before .before .before .args .adders .now) (c .before .before .before .before .before .before .before .before .before .args .killers .now) (c .before .before .before .before .before .before .before .before .before .args .steps .now) (c .before .before .before .before .before .before .before .before .before .args .hits .now) (c .before .before .before .before .before .before .before .before .before .args .ask)) ll.wf-of (c .before .before .before .before .before .before .before .before .before .args .ask .count) ll.count-of (c .before .before .before .before .before .before .before .before .before .args .base) (c .before .before .before .before .before .before .before .before .before .args .k) (c .before .before .before .before .before .before .before .before .before .args .t3) (c .before .before .before .before .before .before .before .before .before .pre .1 .1 .0) (λ e. c .before .before .if1 .left (getD-any (c .before .before .before .before .before .before .before .before .before .args .t3) (c .before .before .before .before .before .before .before .before .before .args .k) 0 65535 (let g = (c .before .before .before .before .before .before .before .before .before .good) in let len : length (c .before .before .before .before .before .before .before .before .before .args .t3) ≡ 24 = search needs in omega (arith, c .before .before .before .before .before .before .before .before .before .pre .1 .0)) ∙ e)) (c .before .before .before .before .before .before .before .before .before .pre .0), (c .before .before .before .before .before .before .before .before .before .pre .1 .0, c .before .before .before .before .before .before .before .before .before .pre .1 .1 .1))
+lower-requires c κs = let pre = (c .before .before .before .before .before .before .before .before .before .pre) in (lower-ok (pre .2) (λ e. c .before .before .before .before .before .before .if1 .left (c .before .before .before .before .before .before .before .start-of .ensures ∙ e)) (pre .0) (c .before .before .before .try-without .ensures) (c .before .before .if2 .left), pre .1, pre .3)
 
-mul-v : tie.Need-mul-v
-mul-v c = search needs
+start-of-requires-2 : tie.Need-start-of-requires-2
+start-of-requires-2 c κs = (c .before .before .before .before .before .before .before .before .before .before .before .before .pre .1, c .before .before .lower .ensures .begins .size)
 
-array-read-v : tie.Need-array-read-v
-array-read-v c = search needs
-
-put-inside-requires : tie.Need-put-inside-requires
-put-inside-requires c κs = search needs
-
-put-lo-requires : tie.Need-put-lo-requires
-put-lo-requires c κs = c .before .before .before .before .before .before .before .before .before .before .before .pre .1 .0
-
-put-hi-requires : tie.Need-put-hi-requires
-put-hi-requires c κs = c .before .before .before .before .before .before .before .before .before .before .before .before .pre .1 .0
+fix-requires : tie.Need-fix-requires
+fix-requires c κs = let pre = (c .before .before .before .before .before .before .before .before .before .before .before .before .before .pre) in let w = in-window (pre .3) (c .before .before .before .lower .ensures) in (pre .1, omega (arith, w .0, c .start-of2 .ensures), omega (arith, w .1, c .start-of2 .ensures))
 
 returns-3 : tie.Need-returns-3
-returns-3 c = ll.step-in (Lent (c .before .before .before .before .before .before .before .before .before .before .before .before .before .args .conds .now) (c .before .before .before .before .before .before .before .before .before .before .before .before .before .args .adders .now) (c .before .before .before .before .before .before .before .before .before .before .before .before .before .args .killers .now) (c .before .before .before .before .before .before .before .before .before .before .before .before .before .args .steps .now) (c .before .before .before .before .before .before .before .before .before .before .before .before .before .args .hits .now) (c .before .before .before .before .before .before .before .before .before .before .before .before .before .args .ask)) ll.wf-of (c .before .before .before .before .before .before .before .before .before .before .before .before .before .args .ask .count) ll.count-of (c .before .before .before .before .before .before .before .before .before .before .before .before .before .args .base) (c .before .before .before .before .before .before .before .before .before .before .before .before .before .args .k) _ (c .before .before .before .before .before .before .before .before .before .before .before .before .before .pre .1 .1 .0) (c .before .before .before .lower .ensures) (c .before .before .before .before .before .try-without .ensures) (c .before .before .before .before .if2 .left) (c .before .before .put-inside .ensures) (c .before .put-lo .ensures) (c .put-hi .ensures) (getD-any (c .before .before .before .lower .result) (c .before .before .before .before .before .before .before .before .before .before .before .before .before .args .k) 65535 0 (omega (arith, c .before .before .before .lower .ensures .size, c .before .before .before .before .before .before .before .before .before .before .before .before .before .pre .1 .0)))
+returns-3 c = step-in _ (c .before .before .before .before .before .before .before .before .before .before .before .before .before .before .pre .2) (c .before .before .before .before .lower .ensures) (c .before .before .before .before .before .before .before .before .try-without .ensures) (c .before .before .before .before .before .before .before .if2 .left) (c .fix .ensures) (sym (c .before .start-of2 .ensures))
 
 pub settle-job-spec : {M : Type 1} → statement M
 settle-job-spec =
     tie.close
     (tie.spec
-    mul-t
-    array-read-t
-    put-barred-requires
+    (λ c κs. (c .before .pre .1, c .before .pre .0 .size))
+    (λ c κs. c .before .before .before .before .pre .1)
     returns
-    try-without-requires
+    (λ c κs. (c .before .before .before .before .before .pre .1, c .before .before .before .before .before .pre .3))
+    (λ c κs. c .before .before .before .before .before .before .before .before .pre .1)
     returns-2
     lower-requires
-    mul-v
-    array-read-v
-    put-inside-requires
-    put-lo-requires
-    put-hi-requires
+    start-of-requires-2
+    (λ c. search needs)
+    fix-requires
     returns-3)

@@ -1,47 +1,28 @@
+use Rattle.planning.proofs.Laws.{ends-within, halves-up, halves-down}
 use native.Mathlib.Omega.{arith}
-use Prim.Native.Nat.{_+_, _-_, _/_}
-use mathlib.Core.Logic.{inl, inr}
 use borrow.Author.Tests.{not-true, not-false}
-use Rattle.tables.specs.Tables.{problem}
-use Rattle.search.specs.Leaf.{planOf}
-use Rattle.planning.proofs.Laws.{none-below, not-below, end-valid, end-within}
 use borrow.Author.Needs.{needs}
 use Rattle.planning.proofs.halve.Statement.{statement}
 use Rattle.planning.proofs.halve.Tie as tie
 
-sub-mid : tie.Need-sub-mid
-sub-mid c = search needs
-
-add-mid : tie.Need-add-mid
-add-mid c = search needs
-
-plan-at-requires : tie.Need-plan-at-requires
-plan-at-requires c κs = search needs
-
-add-t14 : tie.Need-add-t14
-add-t14 c = search needs
-
-returns : tie.Need-returns
-returns c = record { between = record { none = none-below (problem (c .before .before .args .l) (c .before .before .args .q)) (c .before .before .args .low + (c .before .before .args .high - c .before .before .args .low) / 2) (c .before .plan-at .ensures .none (not-true _ (c .if1 .taken))); some = c .before .before .pre .1 .1 .some }; within = omega arith; top = omega arith; less = inl (omega arith); bottom = omega arith }
-
 last-end-requires : tie.Need-last-end-requires
-last-end-requires c κs = search needs
+last-end-requires c κs = let s = c .before .before .before .before .before .before .pre .0 in (record { served = s .spanned; listed = c .before .before .before .plan-at .ensures .kept (s .spanned) (s .listed); short = omega arith }, c .before .before .before .plan-at .ensures .each (s .spanned) (s .listed) .size (not-false _ (c .before .before .if1 .left)))
 
-cast-t11 : tie.Need-cast-t11
-cast-t11 c = omega (arith, end-within (problem (c .before .before .before .before .args .l) (c .before .before .before .before .args .q)) (c .before .before .before .before .pre .0 .order) (planOf (c .before .before .before .plan-at .result .starts)) (c .before .before .before .before .args .low + (c .before .before .before .before .args .high - c .before .before .before .before .args .low) / 2) (c .last-end .result) (c .last-end .ensures (c .before .before .before .before .args .q)) (c .before .before .before .plan-at .ensures .found (not-false _ (c .before .before .if1 .left))), c .before .before .before .before .pre .0 .short)
+cast-t7 : tie.Need-cast-t7
+cast-t7 c = let s = c .before .before .before .before .before .before .before .pre .0 in omega (arith, ends-within (c .before .before .before .before .plan-at .ensures) (not-false _ (c .before .before .before .if1 .left)) (c .last-end .ensures) (s .spanned) (s .listed), s .short)
 
 returns-2 : tie.Need-returns-2
-returns-2 c = record { between = record { none = c .before .before .before .before .pre .1 .1 .none; some = (planOf (c .before .before .before .plan-at .result .starts), end-valid (problem (c .before .before .before .before .args .l) (c .before .before .before .before .args .q)) (c .before .before .before .before .pre .0 .order) (planOf (c .before .before .before .plan-at .result .starts)) (c .before .before .before .before .args .low + (c .before .before .before .before .args .high - c .before .before .before .before .args .low) / 2) (c .last-end .result) (c .last-end .ensures (c .before .before .before .before .args .q)) (c .before .before .before .plan-at .ensures .found (not-false _ (c .before .before .if1 .left)))) }; within = not-below (problem (c .before .before .before .before .args .l) (c .before .before .before .before .args .q)) (c .before .before .before .before .args .low) (c .last-end .result) (planOf (c .before .before .before .plan-at .result .starts)) (c .before .before .before .before .pre .1 .1 .none) (end-valid (problem (c .before .before .before .before .args .l) (c .before .before .before .before .args .q)) (c .before .before .before .before .pre .0 .order) (planOf (c .before .before .before .plan-at .result .starts)) (c .before .before .before .before .args .low + (c .before .before .before .before .args .high - c .before .before .before .before .args .low) / 2) (c .last-end .result) (c .last-end .ensures (c .before .before .before .before .args .q)) (c .before .before .before .plan-at .ensures .found (not-false _ (c .before .before .if1 .left)))); top = omega (arith, end-within (problem (c .before .before .before .before .args .l) (c .before .before .before .before .args .q)) (c .before .before .before .before .pre .0 .order) (planOf (c .before .before .before .plan-at .result .starts)) (c .before .before .before .before .args .low + (c .before .before .before .before .args .high - c .before .before .before .before .args .low) / 2) (c .last-end .result) (c .last-end .ensures (c .before .before .before .before .args .q)) (c .before .before .before .plan-at .ensures .found (not-false _ (c .before .before .if1 .left)))); less = inr (omega (arith, end-within (problem (c .before .before .before .before .args .l) (c .before .before .before .before .args .q)) (c .before .before .before .before .pre .0 .order) (planOf (c .before .before .before .plan-at .result .starts)) (c .before .before .before .before .args .low + (c .before .before .before .before .args .high - c .before .before .before .before .args .low) / 2) (c .last-end .result) (c .last-end .ensures (c .before .before .before .before .args .q)) (c .before .before .before .plan-at .ensures .found (not-false _ (c .before .before .if1 .left))))); bottom = omega arith }
+returns-2 c = halves-down (c .before .before .before .before .plan-at .ensures) (omega arith) (not-false _ (c .before .before .before .if1 .left)) (c .last-end .ensures) (c .before .before .before .before .before .before .before .pre .0)
 
 pub halve-spec : {M : Type 1} → statement M
 halve-spec =
     tie.close
     (tie.spec
-    sub-mid
-    add-mid
-    plan-at-requires
-    add-t14
-    returns
+    (λ c. search needs)
+    (λ c. search needs)
+    (λ c κs. let s = c .before .before .pre .0 in record { served = s .spanned; listed = s .listed; short = omega (arith, s .short) })
+    (λ c. search needs)
+    (λ c. halves-up (c .before .plan-at .ensures) (omega arith) (not-true _ (c .if1 .taken)) (omega arith))
     last-end-requires
-    cast-t11
+    cast-t7
     returns-2)

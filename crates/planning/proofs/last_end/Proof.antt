@@ -1,51 +1,40 @@
-use borrow.Author.Needs.{needs}
-use native.Mathlib.Omega.{arith}
-use Prim.Native.Nat.{_-_, _≤_}
-use mathlib.Core.Path.{_≡_, refl}
-use Rattle.facts.proofs.Lists.{getD-any}
-use Rattle.tables.specs.Tables.{problem}
-use Rattle.tables.specs.declared.Ask.{Ask}
-use Rattle.search.specs.Leaf.{planOf}
-use Rattle.planning.specs.Derived.{LastEnd}
 use Rattle.planning.proofs.Laws.{end-none, end-next}
+use Rattle.planning.specs.Derived.{LastEnd}
+use Rattle.rules.specs.Table.{Problem}
+use Rattle.lent.specs.Lent.{Listed}
+use Rattle.leaves.specs.Leaf.{planOf}
+use Rattle.facts.proofs.Lists.{getD-any}
+use mathlib.Core.Path.{_≡_}
+use Prim.Native.Nat.{_-_, _≤_}
+use native.Mathlib.Omega.{arith}
+use denote.Ref.{now}
+use borrow.Author.Needs.{needs}
 use Rattle.planning.proofs.last_end.Statement.{statement}
 use Rattle.planning.proofs.last_end.Tie as tie
 
 abbrev Inv-loop : tie.InvT-loop
-Inv-loop n l starts end₀ j₀ end j = (j ≤ n) × ((q : Ask) → LastEnd (problem l q) (planOf starts) j end)
+Inv-loop t out end₀ n j₀ end j = (j ≤ n) × ((P : Problem) → Listed t P → LastEnd P (planOf out) j end)
 
 abbrev μ-loop : tie.MeasureT-loop
-μ-loop n l starts end₀ j₀ end j = n - j
-
-loop-holds : tie.Need-loop-holds Inv-loop μ-loop
-loop-holds c = (omega arith, λ q. end-none _ _)
+μ-loop t out end₀ n j₀ end j = n - j
 
 mul-later : tie.Need-mul-later Inv-loop μ-loop
-mul-later c = search needs
-
-array-read-later : tie.Need-array-read-later Inv-loop μ-loop
-array-read-later c = search needs
-
-mul-later-2 : tie.Need-mul-later-2 Inv-loop μ-loop
-mul-later-2 c = search needs
+mul-later c = omega (arith, c .before .before .before .pre .0 .listed .few, c .before .before .before .pre .0 .listed .count, c .before .before .count .ensures)
 
 element-copy-out-later : tie.Need-element-copy-out-later Inv-loop μ-loop
-element-copy-out-later c = search needs
+element-copy-out-later c = omega (arith, c .before .before .before .pre .0 .listed .few, c .before .before .before .pre .0 .listed .count, c .before .before .count .ensures, c .before .before .before .pre .1)
 
-later-requires : tie.Need-later-requires Inv-loop μ-loop
-later-requires c κs = search needs
+step-requires : tie.Need-step-requires Inv-loop μ-loop
+step-requires c κs = omega (arith, c .before .before .before .before .pre .0 .listed .few, c .before .before .before .before .pre .0 .listed .count, c .before .before .before .count .ensures)
 
 add-j : tie.Need-add-j Inv-loop μ-loop
-add-j c = search needs
-
-loop-less : tie.Need-loop-less Inv-loop μ-loop
-loop-less c = search needs
+add-j c = omega (arith, c .before .before .before .before .before .before .pre .0 .listed .few, c .before .before .before .before .before .before .pre .0 .listed .count, c .before .before .before .before .before .count .ensures)
 
 loop-again : tie.Need-loop-again Inv-loop μ-loop
-loop-again c = (omega arith, λ q. end-next (problem (c .before .before .before .before .args .t1) q) (planOf (c .before .before .before .before .args .t3)) (c .before .before .before .loop .j) (c .before .before .before .loop .end) _ _ _ (getD-any (c .before .before .before .before .args .t3) (c .before .before .before .loop .j) 65535 0 (search needs)) refl (c .before .before .before .loop .inv .1 q) (c .later .ensures))
+loop-again c = let pre = (c .before .before .before .before .before .before .pre) in (omega arith, λ P l. end-next P (planOf (now (c .before .before .before .before .before .before .args .out))) (c .before .before .before .before .loop .j) (c .before .before .before .before .loop .end) _ _ _ (getD-any (now (c .before .before .before .before .before .before .args .out)) (c .before .before .before .before .loop .j) 65535 0 (omega (arith, pre .0 .listed .few, pre .0 .listed .count, c .before .before .before .before .before .count .ensures, pre .1))) (omega (arith, l .steps (c .before .before .before .before .loop .j) (omega (arith, pre .0 .listed .few, pre .0 .listed .count, c .before .before .before .before .before .count .ensures)), l .gap, c .before .step .ensures)) (c .before .before .before .before .loop .inv .1 P l) (c .later .ensures))
 
 returns : tie.Need-returns Inv-loop μ-loop
-returns c = let e : c .before .loop .j ≡ c .before .before .args .n = omega arith in rw e at (c .before .loop .inv .1)
+returns c = λ P l. (let e : c .before .loop .j ≡ P .count = omega (arith, l .count, c .before .before .count .ensures, c .before .loop .inv .0) in rw e at (c .before .loop .inv .1 P l))
 
 pub last-end-spec : {M : Type 1} → statement M
 last-end-spec =
@@ -53,13 +42,13 @@ last-end-spec =
     (tie.spec
     Inv-loop
     μ-loop
-    loop-holds
+    (λ c κs. search needs)
+    (λ c. (omega arith, λ P l. end-none P _))
     mul-later
-    array-read-later
-    mul-later-2
     element-copy-out-later
-    later-requires
+    step-requires
+    (λ c κs. search needs)
     add-j
-    loop-less
+    (λ c. search needs)
     loop-again
     returns)

@@ -12,21 +12,12 @@ use borrow.Author.Needs.{needs}
 use Rattle.planning.proofs.planning_fault.Statement.{statement}
 use Rattle.planning.proofs.planning_fault.Tie as tie
 
-call-fault-requires : tie.Need-call-fault-requires
-call-fault-requires c κs = search needs
-
 returns : tie.Need-returns
 returns c = record { says = c .before .before .call-fault .ensures .says ∙ said 0 0 (stopped (callChecks (ltb (c .before .before .before .args .room) (c .before .before .before .args .q .jobs)) (c .before .before .before .args .l) (c .before .before .before .args .q)) (call-checks (ltb (c .before .before .before .args .room) (c .before .before .before .args .q .jobs)) (c .before .before .before .args .l) (c .before .before .before .args .q)) (λ z. c .if1 .taken (numbered 0 0 (c .before .before .call-fault .ensures .says) ∙ z)) (boundCheck (c .before .before .before .args .q .bound) accepted)); order = λ z. absurd (c .if1 .taken z) }
-
-refuse-requires : tie.Need-refuse-requires
-refuse-requires c κs = search needs
 
 returns-2 : tie.Need-returns-2
 unfolding boundCheck
 returns-2 c = judges-no (c .refuse .ensures) (went-on (callChecks (ltb (c .before .before .before .before .before .before .args .room) (c .before .before .before .before .before .before .args .q .jobs)) (c .before .before .before .before .before .before .args .l) (c .before .before .before .before .before .before .args .q)) (call-checks (ltb (c .before .before .before .before .before .before .args .room) (c .before .before .before .before .before .before .args .q .jobs)) (c .before .before .before .before .before .before .args .l) (c .before .before .before .before .before .before .args .q)) (sym (numbered 0 0 (c .before .before .before .before .before .call-fault .ensures .says)) ∙ c .before .before .before .if1 .left) (boundCheck (c .before .before .before .before .before .before .args .q .bound) accepted) ∙ if-hit _ 9 0 accepted (lt→ltb 2880 _ (c .before .if2 .taken))) (omega arith)
-
-done-requires : tie.Need-done-requires
-done-requires c κs = search needs
 
 returns-3 : tie.Need-returns-3
 unfolding boundCheck
@@ -35,4 +26,4 @@ returns-3 c = record { says = c .done .ensures ∙ said 0 0 (went-on (callChecks
 pub planning-fault-spec : {M : Type 1} → statement M
 planning-fault-spec =
     tie.close
-    (tie.spec call-fault-requires returns refuse-requires returns-2 done-requires returns-3)
+    (tie.spec (λ c κs. search needs) returns (λ c κs. search needs) returns-2 (λ c κs. search needs) returns-3)

@@ -1,19 +1,23 @@
-use Rattle.states.proofs.Keep.{keeps-trans}
+use Rattle.cells.proofs.Changes.{then, under}
 use borrow.Author.Needs.{needs}
 use Rattle.prune.proofs.round.Statement.{statement}
 use Rattle.prune.proofs.round.Tie as tie
 
-pairs-requires : tie.Need-pairs-requires
-pairs-requires c κs = search needs
+returns-2 : tie.Need-returns-2
+returns-2 c = then (c .before .before .before .before .before .before .before .before .pairs .ensures) (under (λ P wf e. tt) (c .before .before .before .chains .ensures))
 
-chains-requires : tie.Need-chains-requires
-chains-requires c κs = search needs
-
-supports-rule-requires : tie.Need-supports-rule-requires
-supports-rule-requires c κs = search needs
-
-returns : tie.Need-returns
-returns c = λ P wf l. keeps-trans (c .before .before .pairs .ensures P wf (l .tabled)) (keeps-trans (c .before .chains .ensures P wf tt) (c .supports-rule .ensures P (l .known) (l .tabled .steps)))
+returns-3 : tie.Need-returns-3
+returns-3 c = then (c .before .before .before .before .before .before .before .before .before .before .pairs .ensures) (then (under (λ P wf e. tt) (c .before .before .before .before .before .chains .ensures)) (c .consumers .ensures))
 
 pub round-spec : {M : Type 1} → statement M
-round-spec = tie.close (tie.spec pairs-requires chains-requires supports-rule-requires returns)
+round-spec =
+    tie.close
+    (tie.spec
+    (λ c κs. search needs)
+    (λ c κs. search needs)
+    (λ c. c .before .before .before .pairs .ensures)
+    (λ c κs. search needs)
+    (λ c κs. search needs)
+    returns-2
+    (λ c κs. search needs)
+    returns-3)

@@ -1,37 +1,31 @@
-use native.Mathlib.Omega.{arith}
-use Prim.Native.Nat.{_-_, _≤_}
+use Rattle.facts.proofs.Walks.{Over, over-all, over-next, over-here}
+use Rattle.cells.proofs.Changes.{none, follows}
+use Rattle.prune.proofs.Laws.{spared-more}
+use Rattle.prune.specs.Prune.{Spared}
+use Rattle.cells.specs.View.{Prunes}
 use borrow.Author.Needs.{needs}
-use Rattle.states.proofs.Keep.{keeps-refl, keeps-trans}
-use Rattle.prune.specs.Prune.{SparesAll}
-use Rattle.prune.proofs.Laws as pl
 use Rattle.prune.proofs.spare_all.Statement.{statement}
 use Rattle.prune.proofs.spare_all.Tie as tie
 
 abbrev Inv-loop : tie.InvT-loop
-Inv-loop b a kills t₀ d₀ t d = (d ≤ 24) × SparesAll t₀ b a kills t
+Inv-loop s₀ b a kills w₀ s w = Over 32 kills w × Prunes (Spared s₀ b a kills) s₀ s
 
 abbrev μ-loop : tie.MeasureT-loop
-μ-loop b a kills t₀ d₀ t d = 24 - d
-
-loop-holds : tie.Need-loop-holds Inv-loop μ-loop
-loop-holds c = (omega arith, λ P p x k. keeps-refl _)
-
-spare-if-requires : tie.Need-spare-if-requires Inv-loop μ-loop
-spare-if-requires c κs = search needs
-
-add-d : tie.Need-add-d Inv-loop μ-loop
-add-d c = search needs
-
-loop-less : tie.Need-loop-less Inv-loop μ-loop
-loop-less c = search needs
+μ-loop s₀ b a kills w₀ s w = w
 
 loop-again : tie.Need-loop-again Inv-loop μ-loop
-loop-again c = (omega arith, λ P p x k. (let g = c .before .before .loop .inv .1 P p x k in keeps-trans g (c .spare-if .ensures P p (pl.spares-more (g .more) x) k)))
-
-returns : tie.Need-returns Inv-loop μ-loop
-returns c = c .before .loop .inv .1
+loop-again c = let i = c .before .before .before .before .before .loop .inv in (over-next (i .0) (c .rest .ensures), follows (i .1) spared-more (c .before .spare .ensures _ (over-here (i .0) (c .before .before .before .before .loop-test .taken) (c .before .before .lowest .ensures))))
 
 pub spare-all-spec : {M : Type 1} → statement M
 spare-all-spec =
     tie.close
-    (tie.spec Inv-loop μ-loop loop-holds spare-if-requires add-d loop-less loop-again returns)
+    (tie.spec
+    Inv-loop
+    μ-loop
+    (λ c. (over-all (c .fits .kills .fits), none))
+    (λ c κs. search needs)
+    (λ c κs. search needs)
+    (λ c κs. search needs)
+    (λ c. c .rest .ensures .less)
+    loop-again
+    (λ c. c .before .loop .inv .1))

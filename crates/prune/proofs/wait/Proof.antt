@@ -1,21 +1,14 @@
+use Rattle.cells.proofs.Changes.{none, say}
+use Rattle.prune.proofs.Laws.{awaits-low}
 use borrow.Author.Needs.{needs}
-use native.Mathlib.Omega.{arith}
-use Rattle.states.proofs.Keep.{keeps-refl}
-use Rattle.prune.proofs.Laws as pl
 use Rattle.prune.proofs.wait.Statement.{statement}
 use Rattle.prune.proofs.wait.Tie as tie
 
-returns : tie.Need-returns
-returns c P p kills t al n = keeps-refl _
-
-least-of-requires : tie.Need-least-of-requires
-least-of-requires c κs = search needs
-
-wait-for-requires : tie.Need-wait-for-requires
-wait-for-requires c κs = search needs
-
-returns-2 : tie.Need-returns-2
-returns-2 c P p kills t al n = c .wait-for .ensures P (pl.wait-low P (c .before .before .before .before .args .s) (c .before .before .before .before .args .b) p kills (c .before .before .before .before .args .w) (c .before .least-of .result) (c .before .before .before .before .args .steps .now) (omega arith) t al n (c .before .least-of .ensures))
-
 pub wait-spec : {M : Type 1} → statement M
-wait-spec = tie.close (tie.spec returns least-of-requires wait-for-requires returns-2)
+wait-spec =
+    tie.close
+    (tie.spec
+    (λ c κs. search needs)
+    (λ c κs. search needs)
+    (λ c. say (c .from .ensures) (λ P wf x. awaits-low wf x (c .before .before .before .before .if1 .taken) (c .before .before .least-of .ensures)))
+    (λ c. none))

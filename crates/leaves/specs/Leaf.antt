@@ -1,0 +1,102 @@
+-- What the contracts of settling and of the leaf cite.
+-- Assumes nothing.
+use mathlib.Core.Path.{_≡_}
+use mathlib.Core.Bool.{Bool, true, false}
+use mathlib.Core.List.{List}
+use Prim.Native.Nat.{ℕ, _+_, _-_, _≤_, _<_, _^_}
+use lib.Dec.{T}
+use lib.ListN.{getD, length}
+use Rattle.rules.specs.Plans.{Plan}
+use Rattle.rules.proofs.Sums.{sum}
+use Rattle.states.specs.State.{Search, Dead, Plans}
+use Rattle.cells.specs.View.{view, Prunes}
+use Rattle.lent.specs.Lent.{stepOf, countOf, boundOf, Lent}
+use Rattle.lent.specs.Consumers.{NoFlaw}
+use Rattle.leaves.specs.declared.Pair.{Pair}
+
+-- a is over before b, both are inside, and b could not start that early
+pub record Violated (s L : List ℕ) (a b : ℕ) : Type 0 where
+  pub first : a < 24
+  pub second : b < 24
+  pub inside : T (view s .inside a)
+  pub there : T (view s .inside b)
+  pub order : T (view s .sure a b)
+  pub late : view s .lo b < view s .lo a + stepOf L a
+
+abbrev pub RowSteady : (s L : List ℕ) (b : ℕ) → Type 0
+RowSteady s L b = (a : ℕ) → Violated s L a b → ⊥
+
+-- a job that is violated with b, or 24 for none
+pub record Late (s L : List ℕ) (b r : ℕ) : Type 0 where
+  pub here : r < 24 → Violated s L r b
+  pub none : 24 ≤ r → RowSteady s L b
+
+-- the lower bounds are starts over the sure pairs
+abbrev pub Steady : (s L : List ℕ) → Type 0
+Steady s L = (b : ℕ) → RowSteady s L b
+
+-- a violated pair, or none
+pub record Finds (s L : List ℕ) (c : Pair) : Type 0 where
+  pub here : c .first < 24 → Violated s L (c .first) (c .second)
+  pub none : 24 ≤ c .first → Steady s L
+
+-- the room that lower bounds have
+unfoldable pub room : List ℕ → ℕ
+room s = sum (λ j. 2 ^ 32 - view s .lo j) 24
+
+-- a lower bound is raised, or no plan is left
+pub record Raised (L s r : List ℕ) (ok : Bool) : Type 0 where
+  pub prunes : Prunes (Lent L) s r
+  pub less : ok ≡ true → room r < room s
+  pub dead : ok ≡ false → (P : Search) → Lent L P → Dead P (view r)
+
+-- the lower bounds are settled, or no plan is left
+pub record AtRest (L s : List ℕ) (ok : Bool) : Type 0 where
+  pub steady : ok ≡ true → Steady s L
+  pub dead : ok ≡ false → (P : Search) → Lent L P → Dead P (view s)
+
+pub record SettledBy (L s r : List ℕ) (ok : Bool) : Type 0 where
+  pub prunes : Prunes (Lent L) s r
+  pub rest : AtRest L r ok
+
+-- job j is of the table, not barred, in its window and in the bound
+pub record Stands (s L : List ℕ) (j : ℕ) : Type 0 where
+  pub below : j < countOf L
+  pub free : T (view s .barred j) → ⊥
+  pub window : view s .lo j ≤ view s .hi j
+  pub ends : view s .lo j + stepOf L j ≤ boundOf L
+
+abbrev pub StandsIf : (s L : List ℕ) (j : ℕ) → Type 0
+StandsIf s L j = T (view s .inside j) → Stands s L j
+
+abbrev pub AllStand : (s L : List ℕ) (n : ℕ) → Type 0
+AllStand s L n = (j : ℕ) → j < n → StandsIf s L j
+
+-- the answer of a check of a state: X, or no plan is left
+pub record Checks (Ok : Search → Type 0) (s : List ℕ) (b : Bool) (X : Type 0) : Type 0 where
+  pub fine : b ≡ true → X
+  pub dead : b ≡ false → (P : Search) → Ok P → Dead P (view s)
+
+-- the start x of a job: its lower bound t, which is none above 65,535, or 65,535 where it is not inside
+pub record StartIs (inside : Bool) (t x : ℕ) : Type 0 where
+  pub in? : T inside → t ≤ 65535 → x ≡ t
+  pub out : (T inside → ⊥) → x ≡ 65535
+
+-- the starts of the first n jobs
+pub record Starts (s : List ℕ) (n : ℕ) (out : List ℕ) : Type 0 where
+  pub size : length out ≡ 24
+  pub each : (j : ℕ) → j < n → StartIs (view s .inside j) (view s .lo j) (getD out j 65535)
+
+abbrev pub planOf : List ℕ → Plan
+planOf l j = getD l j 65535
+
+-- a plan that stays in the state, as starts; or none is left, and the starts are as they were
+pub record Answers (Ok : Search → Type 0) (s old new : List ℕ) (found : Bool) : Type 0 where
+  pub plan : found ≡ true → (P : Search) → Ok P → Plans P (view s) (planOf new)
+  pub size : found ≡ true → length new ≡ 24
+  pub none : found ≡ false → (P : Search) → Ok P → Dead P (view s)
+  pub same : found ≡ false → new ≡ old
+
+pub record LeafOk (s L : List ℕ) : Type 0 where
+  pub steady : Steady s L
+  pub whole : (P : Search) → Lent L P → NoFlaw P s L

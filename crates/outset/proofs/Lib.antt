@@ -1,0 +1,3 @@
+pub mod Words
+pub mod First
+pub mod Strong

@@ -1,0 +1,106 @@
+-- What is searched for a table: the table with e-deletions, which has the same plans.
+-- Assumes nothing.
+use mathlib.Core.Path.{_≡_, refl, sym, ap, subst}
+use mathlib.Core.Logic.{inl, _↔_}
+use mathlib.Core.Bool.{Bool}
+use mathlib.Core.List.{List}
+use Prim.Native.Nat.{ℕ, _+_, _≤_, _<_}
+use native.Mathlib.Omega.{arith}
+use lib.ListN.{getD}
+use Rattle.facts.specs.Facts.{Decides}
+use Rattle.rules.specs.Table.{Problem, InOrder}
+use Rattle.rules.specs.Plans.{Plan, In, Valid}
+use Rattle.rules.specs.Order.{NoPlan}
+use Rattle.rules.specs.Estimates.{Estimates}
+use Rattle.rules.proofs.Early.{Alike, never-early}
+use Rattle.tables.specs.declared.Loaded.{Loaded}
+use Rattle.tables.specs.declared.Ask.{Ask}
+use Rattle.tables.specs.Tables.{problem}
+use Rattle.entries.specs.Entries.{entry}
+use Rattle.reach.specs.Reach.{Closed, Exact, strong, EWords}
+use Rattle.reach.specs.Rows.{inRows, FitIn, EDone}
+use Rattle.reach.proofs.States.{states}
+use Rattle.reach.proofs.Same.{strong-ok, same-valid}
+use Rattle.reach.proofs.EDeletes.{fit}
+use Rattle.reach.proofs.Alike.{closed-alike}
+use Rattle.reach.proofs.Words.{edone-words}
+use Rattle.lent.specs.Lent.{Cols, Listed, hitsOf, estOf}
+use Rattle.outset.specs.Outset.{Hit, AllWait, Lists, SetsOut}
+use native.Mathlib.Nat.{add-sub-cancel}
+
+-- ── the lists of a table are those of its problem ──
+
+module _ (k : Loaded) (q : Ask) (few : q .jobs ≤ 24) (ok : InOrder (problem k q)) (est L : List ℕ) (t : Lists k q est L 228) where
+  hit : (a : ℕ) → a < 24 → Cols (Hit k q a) (hitsOf L a) 24
+  hit a l = rw (add-sub-cancel a 178) at (t (a + 178) (omega arith) .there (omega arith) .there (omega arith) .there (omega arith) .there (omega arith) .there (omega arith) .there (omega arith) .here (omega arith))
+
+  begins : (i : ℕ) → i < 24 → estOf L i ≡ getD est i 0
+  begins i l = rw (add-sub-cancel i 202) at (t (i + 202) (omega arith) .there (omega arith) .there (omega arith) .there (omega arith) .there (omega arith) .there (omega arith) .there (omega arith) .there (omega arith) .here (omega arith))
+
+  pub listed-of : ((bound : ℕ) (Q : Plan) → Valid (problem k q) bound Q → (i : ℕ) → In (problem k q) Q i → getD est i 0 ≤ Q i) → Listed L (problem k q)
+  listed-of early = record {
+    wf = ok;
+    few = few;
+    count = omega (arith, t 226 (omega arith) .there (omega arith) .there (omega arith) .there (omega arith) .there (omega arith) .there (omega arith) .there (omega arith) .there (omega arith) .there (omega arith));
+    opening = sym (t 25 (omega arith) .there (omega arith) .there (omega arith) .here (omega arith));
+    conds = λ b l. sym (t b (omega arith) .here l);
+    goals = sym (t 24 (omega arith) .there (omega arith) .here (omega arith));
+    adders = λ p l. rw (add-sub-cancel p 26) at (t (p + 26) (omega arith) .there (omega arith) .there (omega arith) .there (omega arith) .here (omega arith));
+    killers = λ p l. rw (add-sub-cancel p 90) at (t (p + 90) (omega arith) .there (omega arith) .there (omega arith) .there (omega arith) .there (omega arith) .here (omega arith));
+    steps = λ a l. omega (arith, rw (add-sub-cancel a 154) at (t (a + 154) (omega arith) .there (omega arith) .there (omega arith) .there (omega arith) .there (omega arith) .there (omega arith) .here (omega arith)));
+    clash = λ a b l h. hit a l .of b h .1 .1;
+    meets = λ a b l m h. hit a (omega arith) .at b (omega arith) (m, h);
+    early = λ bound Q v i h. omega (arith, begins i (omega (arith, h .below)), early bound Q v i h);
+    gap = refl;
+    release = λ i. refl;
+  }
+
+-- ── the table with e-deletions ──
+
+module _ (l : Loaded) (q : Ask) (ok : InOrder (problem l q)) (rows : List ℕ) (x : Exact (problem l q) (inRows rows)) (k : Loaded) (d : EDone rows l (q .jobs) k) where
+  abbrev P : Problem
+  P = problem l q
+
+  abbrev K : Problem
+  K = problem k q
+
+  abbrev D : ℕ → ℕ
+  D i = getD (k .deletions) i 0
+
+  words : EWords P (inRows rows) D
+  words = edone-words l q rows k ok (x .closed) d
+
+  is-strong : K ≡ strong P D
+  is-strong = ap (λ (y : Loaded). problem y q) (d .rest)
+
+  strong-order : InOrder (strong P D)
+  strong-order = strong-ok P ok (inRows rows) x D words
+
+  order : InOrder K
+  order = subst InOrder (sym is-strong) strong-order
+
+  alike : Alike (strong P D) P
+  alike = record { count = refl; conditions = λ i h. refl; additions = λ i p h m. refl; duration = λ i h. refl; release = λ i h. refl; gap = refl; opening = refl }
+
+  closed : Closed K (inRows rows)
+  closed = subst (λ (Z : Problem). Closed Z (inRows rows)) (sym is-strong) (closed-alike (strong P D) P strong-order alike (λ i p h y. words i p h .1 (inl y)) (inRows rows) (x .closed))
+
+  -- the goals of a plan hold together
+  together : (bound : ℕ) → (FitIn rows (q .goals) 64 → ⊥) → NoPlan P bound
+  together bound n z v = n (λ r m g u h. states P ok bound z v (inRows rows) (x .closed) bound r u (v .reached r g) (v .reached u h))
+
+  pub sets-out : (base est L : List ℕ) (goals : Bool) → q .jobs ≤ 24 → Estimates K (entry base) → AllWait rows (k .conditions) base est 24 → Lists k q est L 228
+      → Decides goals (FitIn rows (q .goals) 64) → SetsOut l q (record { tables = L; goals = goals })
+  sets-out base est L goals few e w t g = record {
+    searched = K;
+    jobs = refl;
+    listed = listed-of k q few order est L t early;
+    same = λ bound s. subst (λ (Z : Problem). Valid P bound s ↔ Valid Z bound s) (sym is-strong) (same-valid P ok (inRows rows) x D words bound s);
+    hopeless = λ h bound. together bound (g .nay h);
+  }
+    where
+      -- the conditions of a job of the plan are pairwise reachable, so it waits for its estimate
+      early : (bound : ℕ) (Q : Plan) → Valid K bound Q → (i : ℕ) → In K Q i → getD est i 0 ≤ Q i
+      early bound Q v i h =
+          let fits : FitIn rows (getD (k .conditions) i 0) 64 = λ r m a u b. fit K order bound Q v (inRows rows) closed i h r u a b in
+          omega (arith, w i (omega (arith, h .below)) .fit fits, never-early K order (entry base) e bound Q v i h)

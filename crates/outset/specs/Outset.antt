@@ -1,0 +1,80 @@
+-- What the contracts of the lists that the search reads, and of its first state, cite.
+-- Assumes nothing.
+use mathlib.Core.Path.{_≡_}
+use mathlib.Core.Logic.{_↔_}
+use mathlib.Core.Bool.{false}
+use mathlib.Core.List.{List}
+use Prim.Native.Nat.{ℕ, _-_, _%_, _≤_, _<_, _^_}
+use lib.Dec.{T}
+use lib.ListN.{getD}
+use Rattle.facts.specs.Facts.{has}
+use Rattle.rules.specs.Table.{Problem}
+use Rattle.rules.specs.Plans.{Plan, interfere, Valid}
+use Rattle.rules.specs.Order.{NoPlan}
+use Rattle.tables.specs.Tables.{problem}
+use Rattle.tables.specs.declared.Loaded.{Loaded}
+use Rattle.tables.specs.declared.Ask.{Ask}
+use Rattle.reach.specs.Rows.{FitIn}
+use Rattle.states.specs.State.{Search, Good, Fits}
+use Rattle.cells.specs.View.{view}
+use Rattle.lent.specs.Lent.{Cols, Listed}
+use Rattle.outset.specs.declared.Outset.{Outset}
+
+-- ── words of jobs ──
+
+-- job j is below n and has fact p in its word
+abbrev pub Among : (words : List ℕ) (n p j : ℕ) → Type 0
+Among words n p j = (j < n) × T (has (getD words j 0) p)
+
+-- b is a job of the table that interferes with a
+abbrev pub Hit : Loaded → Ask → (a b : ℕ) → Type 0
+Hit l q a b = (b < q .jobs) × T (interfere (problem l q) a b)
+
+-- ── the table, place by place ──
+
+-- A below the place n, B from it on
+pub record Upto (i n : ℕ) (A B : Type 0) : Type 0 where
+  pub here : i < n → A
+  pub there : n ≤ i → B
+
+-- the word x at place i: conditions, goals, opening, adders, killers, durations, hits, estimates, and the count
+abbrev pub Stands : Loaded → Ask → (est : List ℕ) (i x : ℕ) → Type 0
+Stands l q est i x =
+    Upto i 24 (x ≡ getD (l .conditions) i 0)
+    (Upto i 25 (x ≡ q .goals)
+    (Upto i 26 (x ≡ q .opening)
+    (Upto i 90 (Cols (Among (l .additions) (q .jobs) (i - 26)) (x % 2 ^ 32) 24)
+    (Upto i 154 (Cols (Among (l .deletions) (q .jobs) (i - 90)) (x % 2 ^ 32) 24)
+    (Upto i 178 (x % 2 ^ 32 ≡ getD (l .durations) (i - 154) 0)
+    (Upto i 202 (Cols (Hit l q (i - 178)) (x % 2 ^ 32) 24)
+    (Upto i 226 (x % 2 ^ 32 ≡ getD est (i - 202) 0)
+    (x ≡ q .jobs))))))))
+
+-- the first n places of the table L
+abbrev pub Lists : Loaded → Ask → (est L : List ℕ) (n : ℕ) → Type 0
+Lists l q est L n = (i : ℕ) → i < n → Stands l q est i (getD L i 0)
+
+-- ── where a job may begin ──
+
+-- the estimate e, or 65,535 where the conditions c are not pairwise in the rows
+pub record Waits (rows : List ℕ) (c e x : ℕ) : Type 0 where
+  pub fit : FitIn rows c 64 → x ≡ e
+  pub unfit : (FitIn rows c 64 → ⊥) → x ≡ 65535
+
+-- the same of the first n jobs
+abbrev pub AllWait : (rows words base est : List ℕ) (n : ℕ) → Type 0
+AllWait rows words base est n = (j : ℕ) → j < n → Waits rows (getD words j 0) (getD base j 0) (getD est j 0)
+
+-- ── the whole ──
+
+-- every valid plan fits the state
+abbrev pub FitsAll : Search → List ℕ → Type 0
+FitsAll P s = (Q : Plan) → Good P Q → Fits P Q (view s)
+
+-- what is searched for the table l: lists of a problem that has the same valid plans; no plan where the goals are not pairwise reachable
+pub record SetsOut (l : Loaded) (q : Ask) (r : Outset) : Type 0 where
+  pub searched : Problem
+  pub jobs : searched .count ≡ q .jobs
+  pub listed : Listed (r .tables) searched
+  pub same : (bound : ℕ) (s : Plan) → Valid (problem l q) bound s ↔ Valid searched bound s
+  pub hopeless : r .goals ≡ false → (bound : ℕ) → NoPlan (problem l q) bound

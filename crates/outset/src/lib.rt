@@ -1,0 +1,177 @@
+// What a table sets out to the search: the lists it reads, and the state it begins from.
+ghost use Prim.Native.Nat.{_≤_, _<_};
+ghost use Rattle.facts.specs.Facts.{Decides};
+ghost use Rattle.rules.specs.Table.{InOrder};
+ghost use Rattle.tables.specs.Tables.{problem};
+ghost use Rattle.states.specs.State.{Search};
+ghost use Rattle.cells.specs.View.{Prunes};
+ghost use Rattle.lent.specs.Lent.{Cols, Lent};
+ghost use Rattle.outset.specs.Outset.{Among, Hit, Stands, Lists, Waits, AllWait, FitsAll, SetsOut};
+use cells::State;
+use lent::Tables;
+use reach::Pairs;
+use tables::Ask;
+use tables::Loaded;
+
+// What the search reads, and whether the goals are pairwise reachable.
+pub struct Outset {
+    pub tables: Tables,
+    pub goals: bool,
+}
+
+// Job j is below n and has fact p in its word.
+fn job_has(words: [u64; 24], n: usize, j: usize, p: usize) -> bool
+    requires { ⌜ (j < 24) × (p < 64) ⌝ }
+    ensures { λ r. ⌜ Decides r (Among words n p j) ⌝ }
+{
+    if n <= j {
+        return false;
+    }
+    facts::has(words[j], p)
+}
+
+// The jobs below n that have fact p.
+fn jobs_with(words: [u64; 24], n: usize, p: usize) -> u32
+    requires { ⌜ p < 64 ⌝ }
+    ensures { λ r. ⌜ Cols (Among words n p) r 24 ⌝ }
+{
+    let mut w: u32 = 0;
+    for j in 0..24 {
+        let hit = job_has(words, n, j, p);
+        w = cells::with_if(w, j, hit);
+    }
+    w
+}
+
+// Job b is in the table and interferes with a.
+fn job_hits(l: Loaded, q: Ask, a: usize, b: usize) -> bool
+    requires { ⌜ (a < 24) × (b < 24) ⌝ }
+    ensures { λ r. ⌜ Decides r (Hit l q a b) ⌝ }
+{
+    if q.jobs <= b {
+        return false;
+    }
+    verdict::interferes(l, a, b)
+}
+
+// The jobs that interfere with a.
+fn hits_of(l: Loaded, q: Ask, a: usize) -> u32
+    requires { ⌜ a < 24 ⌝ }
+    ensures { λ r. ⌜ Cols (Hit l q a) r 24 ⌝ }
+{
+    let mut w: u32 = 0;
+    for b in 0..24 {
+        let hit = job_hits(l, q, a, b);
+        w = cells::with_if(w, b, hit);
+    }
+    w
+}
+
+// What stands at place i of the search's table; the bound is put in later.
+fn entry(l: Loaded, q: Ask, est: [u16; 24], i: usize) -> u64
+    ensures { λ r. ⌜ Stands l q est i r ⌝ }
+{
+    if i < 24 {
+        return l.conditions[i];
+    }
+    if i < 25 {
+        return q.goals;
+    }
+    if i < 26 {
+        return q.opening;
+    }
+    if i < 90 {
+        let additions = l.additions;
+        return jobs_with(additions, q.jobs, i - 26) as u64;
+    }
+    if i < 154 {
+        let deletions = l.deletions;
+        return jobs_with(deletions, q.jobs, i - 90) as u64;
+    }
+    if i < 178 {
+        return l.durations[i - 154] as u64;
+    }
+    if i < 202 {
+        return hits_of(l, q, i - 178) as u64;
+    }
+    if i < 226 {
+        return est[i - 202] as u64;
+    }
+    q.jobs as u64
+}
+
+// The table of the search, but for the bound.
+fn listed(l: Loaded, q: Ask, est: [u16; 24]) -> Tables
+    ensures { λ r. ⌜ Lists l q est r 228 ⌝ }
+{
+    let mut t = [0u64; 228];
+    for i in 0..228 {
+        t[i] = entry(l, q, est, i);
+    }
+    t
+}
+
+// Job j from its estimate to the bound less its duration, or out.
+fn root_job(s: &mut State, j: usize, t: &Tables)
+    requires { ⌜ j < 24 ⌝ }
+    ensures { λ _. ⌜ Prunes (Lent (now (t .entry))) (now (s .entry)) (now (s .exit)) ⌝ }
+{
+    if lent::count(t) <= j {
+        cells::put_barred(s, j);
+        return;
+    }
+    let dur = lent::step(t, j);
+    let bound = lent::bound(t);
+    if bound < dur {
+        cells::put_barred(s, j);
+        return;
+    }
+    orders::till(s, j, bound - dur);
+    orders::from(s, j, cells::wide(lent::est(t, j)));
+}
+
+// The state that every valid plan within the bound fits.
+pub fn root(t: &Tables) -> State
+    ensures { λ r. ⌜ ((P : Search) → Lent (now (t .entry)) P → FitsAll P r) ⌝ }
+{
+    let mut s = cells::blank();
+    for j in 0..24 {
+        root_job(&mut s, j, t);
+    }
+    s
+}
+
+// The estimate of a job, or never where its conditions are not pairwise reachable.
+fn waits(s: Pairs, c: u64, est: u16) -> u16
+    ensures { λ r. ⌜ Waits (s .rows) c est r ⌝ }
+{
+    if reach::fits(s, c) {
+        return est;
+    }
+    65535
+}
+
+// The same for all jobs.
+fn all_wait(s: Pairs, words: [u64; 24], est: [u16; 24]) -> [u16; 24]
+    ensures { λ r. ⌜ AllWait (s .rows) words est r 24 ⌝ }
+{
+    let mut t = [0u16; 24];
+    for j in 0..24 {
+        t[j] = waits(s, words[j], est[j]);
+    }
+    t
+}
+
+// What is searched for the table: it has the same plans.
+pub fn set_out(l: Loaded, q: Ask) -> Outset
+    requires { ⌜ (q .jobs ≤ 24) × InOrder (problem l q) ⌝ }
+    ensures { λ r. ⌜ SetsOut l q r ⌝ }
+{
+    let s = reach::reachable(l, q);
+    let goals = reach::fits(s, q.goals);
+    let table = reach::e_table(l, q.jobs, s);
+    let words = table.conditions;
+    let est = all_wait(s, words, estimates::estimate_all(table, q));
+    let tables = listed(table, q, est);
+    Outset { tables, goals }
+}

@@ -1,0 +1,27 @@
+use Rattle.cells.proofs.Changes.{none, then}
+use Rattle.cells.specs.View.{Prunes}
+use Rattle.lent.specs.Lent.{Lent}
+use native.Mathlib.Omega.{arith}
+use Prim.Native.Nat.{_-_, _≤_}
+use borrow.Author.Needs.{needs}
+use Rattle.prune.proofs.consumers.Statement.{statement}
+use Rattle.prune.proofs.consumers.Tie as tie
+
+abbrev Inv-loop : tie.InvT-loop
+Inv-loop s₀ t b₀ s b = (b ≤ 25) × Prunes (Lent t) s₀ s
+
+abbrev μ-loop : tie.MeasureT-loop
+μ-loop s₀ t b₀ s b = 25 - b
+
+pub consumers-spec : {M : Type 1} → statement M
+consumers-spec =
+    tie.close
+    (tie.spec
+    Inv-loop
+    μ-loop
+    (λ c. (omega arith, none))
+    (λ c κs. search needs)
+    (λ c. search needs)
+    (λ c. search needs)
+    (λ c. (omega arith, then (c .before .before .before .loop .inv .1) (c .consumer .ensures)))
+    (λ c. c .before .loop .inv .1))
