@@ -20,32 +20,8 @@ Inv-loop l q s n of₀ b₀ of b = (b ≤ n) × (length of ≡ 24) × ((k : ℕ)
 abbrev μ-loop : tie.MeasureT-loop
 μ-loop l q s n of₀ b₀ of b = n - b
 
-loop-holds : tie.Need-loop-holds Inv-loop μ-loop
-loop-holds c = (omega arith, refl, λ k h. absurd (omega arith))
-
-row-of-requires : tie.Need-row-of-requires Inv-loop μ-loop
-row-of-requires c κs = search needs
-
-givers-requires : tie.Need-givers-requires Inv-loop μ-loop
-givers-requires c κs = search needs
-
-mul-of : tie.Need-mul-of Inv-loop μ-loop
-mul-of c = search needs
-
-array-write-of : tie.Need-array-write-of Inv-loop μ-loop
-array-write-of c = omega arith
-
-add-b : tie.Need-add-b Inv-loop μ-loop
-add-b c = search needs
-
-loop-less : tie.Need-loop-less Inv-loop μ-loop
-loop-less c = search needs
-
 loop-again : tie.Need-loop-again Inv-loop μ-loop
 loop-again c = (omega arith, length-set (c .before .before .before .loop .of) (c .before .before .before .loop .b) _ ∙ c .before .before .before .loop .inv .1, set-more (λ k w. (a : ℕ) → a < c .before .before .before .before .before .args .q .jobs → has w a ≡ (inPlan (starts (c .before .before .before .before .before .args .s .now)) k && feeds (problem (c .before .before .before .before .before .args .l) (c .before .before .before .before .before .args .q)) (starts (c .before .before .before .before .before .args .s .now)) a k)) (c .before .before .before .loop .of) (c .before .before .before .loop .b) _ 0 (omega arith) (c .before .before .before .loop .inv .2) (λ a h. c .givers .ensures a h ∙ feeds-of (problem (c .before .before .before .before .before .args .l) (c .before .before .before .before .before .args .q)) (c .before .before .before .before .before .args .q .bound) (starts (c .before .before .before .before .before .args .s .now)) (c .before .before .before .loop .b) a (c .before .row-of .result) _ (ne-eqb (c .before .before .before .loop .b) (c .before .before .before .before .before .args .q .jobs) (λ e. omega arith)) (c .before .row-of .ensures) h))
-
-returns : tie.Need-returns Inv-loop μ-loop
-returns c = λ b a h. c .before .loop .inv .2 b (omega arith) a
 
 pub all-feeders-spec : {M : Type 1} → statement M
 all-feeders-spec =
@@ -53,12 +29,12 @@ all-feeders-spec =
     (tie.spec
     Inv-loop
     μ-loop
-    loop-holds
-    row-of-requires
-    givers-requires
-    mul-of
-    array-write-of
-    add-b
-    loop-less
+    (λ c. (omega arith, refl, λ k h. absurd (omega arith)))
+    (λ c κs. search needs)
+    (λ c κs. search needs)
+    (λ c. search needs)
+    (λ c. omega arith)
+    (λ c. search needs)
+    (λ c. search needs)
     loop-again
-    returns)
+    (λ c. λ b a h. c .before .loop .inv .2 b (omega arith) a))

@@ -6,50 +6,11 @@ use Rattle.bindings.proofs.Bytes.{binds-out, binds-no, binds-yes}
 use Rattle.bindings.proofs.binds.Statement.{statement}
 use Rattle.bindings.proofs.binds.Tie as tie
 
-mul-if1 : tie.Need-mul-if1
-mul-if1 c = search needs
-
-shared-slice-read-if1 : tie.Need-shared-slice-read-if1
-shared-slice-read-if1 c = search needs
-
 returns : tie.Need-returns
 returns c = binds-out (c .before .before .before .args .t1) (c .before .before .before .args .q) (c .before .before .before .args .s .now) (c .before .before .before .args .a) (c .before .before .before .args .b) (c .if1 .taken)
 
-mul-over-by : tie.Need-mul-over-by
-mul-over-by c = search needs
-
-shared-slice-read-over-by : tie.Need-shared-slice-read-over-by
-shared-slice-read-over-by c = search needs
-
-mul-over-by-2 : tie.Need-mul-over-by-2
-mul-over-by-2 c = search needs
-
-element-copy-out-over-by : tie.Need-element-copy-out-over-by
-element-copy-out-over-by c = search needs
-
-mul-over-by-3 : tie.Need-mul-over-by-3
-mul-over-by-3 c = search needs
-
-shared-slice-read-over-by-2 : tie.Need-shared-slice-read-over-by-2
-shared-slice-read-over-by-2 c = search needs
-
 cast-over-by : tie.Need-cast-over-by
 cast-over-by c = record { fits = omega (arith, c .shared-slice-known4 .given (c .before .before .before .before .before .before .args .b)) }
-
-over-by-requires : tie.Need-over-by-requires
-over-by-requires c κs = search needs
-
-interferes-requires : tie.Need-interferes-requires
-interferes-requires c κs = search needs
-
-mul-has : tie.Need-mul-has
-mul-has c = search needs
-
-element-copy-out-has : tie.Need-element-copy-out-has
-element-copy-out-has c = search needs
-
-has-requires : tie.Need-has-requires
-has-requires c κs = search needs
 
 returns-2 : tie.Need-returns-2
 returns-2 c = binds-yes (c .before .before .before .before .before .before .before .before .before .before .args .t1) (c .before .before .before .before .before .before .before .before .before .before .args .q) (c .before .before .before .before .before .before .before .before .before .before .args .s .now) (c .before .before .before .before .before .before .before .before .before .before .args .a) (c .before .before .before .before .before .before .before .before .before .before .args .b) (c .before .before .before .before .before .before .before .if1 .left) (c .before .before .before .over-by .ensures) (c .before .before .if2 .taken) (or-first _ (c .before .interferes .ensures (c .before .before .before .before .before .before .before .before .before .before .args .q)) (c .if3 .taken))
@@ -64,21 +25,21 @@ pub binds-spec : {M : Type 1} → statement M
 binds-spec =
     tie.close
     (tie.spec
-    mul-if1
-    shared-slice-read-if1
+    (λ c. search needs)
+    (λ c. search needs)
     returns
-    mul-over-by
-    shared-slice-read-over-by
-    mul-over-by-2
-    element-copy-out-over-by
-    mul-over-by-3
-    shared-slice-read-over-by-2
+    (λ c. search needs)
+    (λ c. search needs)
+    (λ c. search needs)
+    (λ c. search needs)
+    (λ c. search needs)
+    (λ c. search needs)
     cast-over-by
-    over-by-requires
-    interferes-requires
-    mul-has
-    element-copy-out-has
-    has-requires
+    (λ c κs. search needs)
+    (λ c κs. search needs)
+    (λ c. search needs)
+    (λ c. search needs)
+    (λ c κs. search needs)
     returns-2
     returns-3
     returns-4)

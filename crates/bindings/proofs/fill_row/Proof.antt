@@ -17,32 +17,8 @@ Inv-loop row n base out₀ p₀ out p = (p ≤ 64) × (length out ≡ length out
 abbrev μ-loop : tie.MeasureT-loop
 μ-loop row n base out₀ p₀ out p = 64 - p
 
-loop-holds : tie.Need-loop-holds Inv-loop μ-loop
-loop-holds c = (omega arith, refl, λ f xs g e. simp add-zero e)
-
-support-byte-requires : tie.Need-support-byte-requires Inv-loop μ-loop
-support-byte-requires c κs = search needs
-
-add-out : tie.Need-add-out Inv-loop μ-loop
-add-out c = search needs
-
-slice-write-out : tie.Need-slice-write-out Inv-loop μ-loop
-slice-write-out c = omega arith
-
-add-p : tie.Need-add-p Inv-loop μ-loop
-add-p c = search needs
-
-loop-less : tie.Need-loop-less Inv-loop μ-loop
-loop-less c = search needs
-
 loop-again : tie.Need-loop-again Inv-loop μ-loop
 loop-again c = (omega arith, length-set (c .before .before .loop .out) _ _ ∙ c .before .before .loop .inv .1, λ f xs g e. row-more f (c .before .before .before .before .args .base) (c .before .before .loop .p) _ xs (c .before .before .loop .out) (c .support-byte .ensures ∙ g (c .before .before .loop .p) (omega arith)) (c .before .before .loop .inv .2 f xs g e))
-
-same-length : tie.Need-same-length Inv-loop μ-loop
-same-length c = c .before .loop .inv .1
-
-returns : tie.Need-returns Inv-loop μ-loop
-returns c = λ f xs g e. let z : c .before .loop .p ≡ 64 = omega arith in rw z at (c .before .loop .inv .2 f xs g e)
 
 pub fill-row-spec : {M : Type 1} → statement M
 fill-row-spec =
@@ -50,12 +26,12 @@ fill-row-spec =
     (tie.spec
     Inv-loop
     μ-loop
-    loop-holds
-    support-byte-requires
-    add-out
-    slice-write-out
-    add-p
-    loop-less
+    (λ c. (omega arith, refl, λ f xs g e. simp add-zero e))
+    (λ c κs. search needs)
+    (λ c. search needs)
+    (λ c. omega arith)
+    (λ c. search needs)
+    (λ c. search needs)
     loop-again
-    same-length
-    returns)
+    (λ c. c .before .loop .inv .1)
+    (λ c. λ f xs g e. let z : c .before .loop .p ≡ 64 = omega arith in rw z at (c .before .loop .inv .2 f xs g e)))

@@ -14,27 +14,6 @@ Inv-loop n row w₀ a₀ w a = (a ≤ n) × Passing (λ k. any (has (getD (row .
 abbrev μ-loop : tie.MeasureT-loop
 μ-loop n row w₀ a₀ w a = n - a
 
-loop-holds : tie.Need-loop-holds Inv-loop μ-loop
-loop-holds c = (omega arith, passing-none (λ k. any (has (getD (c .args .t1 .by) k 0)) 64))
-
-mul-some-fact : tie.Need-mul-some-fact Inv-loop μ-loop
-mul-some-fact c = search needs
-
-element-copy-out-some-fact : tie.Need-element-copy-out-some-fact Inv-loop μ-loop
-element-copy-out-some-fact c = search needs
-
-some-fact-requires : tie.Need-some-fact-requires Inv-loop μ-loop
-some-fact-requires c κs = search needs
-
-with-if-requires : tie.Need-with-if-requires Inv-loop μ-loop
-with-if-requires c κs = search needs
-
-add-a : tie.Need-add-a Inv-loop μ-loop
-add-a c = search needs
-
-loop-less : tie.Need-loop-less Inv-loop μ-loop
-loop-less c = search needs
-
 loop-again : tie.Need-loop-again Inv-loop μ-loop
 loop-again c = (omega arith, passing-more (λ k. any (has (getD (c .before .before .before .before .before .args .t1 .by) k 0)) 64) (c .before .before .before .before .loop .a) (c .before .before .before .before .loop .w) _ (c .before .before .before .before .loop .inv .1) (c .before .some-fact .ensures) (c .with-if .ensures))
 
@@ -47,12 +26,12 @@ givers-spec =
     (tie.spec
     Inv-loop
     μ-loop
-    loop-holds
-    mul-some-fact
-    element-copy-out-some-fact
-    some-fact-requires
-    with-if-requires
-    add-a
-    loop-less
+    (λ c. (omega arith, passing-none (λ k. any (has (getD (c .args .t1 .by) k 0)) 64)))
+    (λ c. search needs)
+    (λ c. search needs)
+    (λ c κs. search needs)
+    (λ c κs. search needs)
+    (λ c. search needs)
+    (λ c. search needs)
     loop-again
     returns)

@@ -8,14 +8,8 @@ use Rattle.bindings.proofs.Filled.{puts-none, puts-pair}
 use Rattle.bindings.proofs.put_if.Statement.{statement}
 use Rattle.bindings.proofs.put_if.Tie as tie
 
-cast-out : tie.Need-cast-out
-cast-out c = search needs
-
 slice-write-out : tie.Need-slice-write-out
 slice-write-out c = let h : c .before .args .at + 2 ≤ length (c .before .args .out .now) = pair-room (c .before .args .yes) (c .before .args .a) (c .before .args .b) _ _ (c .if1 .taken) (c .before .pre .2) in omega arith
-
-cast-out-2 : tie.Need-cast-out-2
-cast-out-2 c = search needs
 
 add-out : tie.Need-add-out
 add-out c = let h : c .before .args .at + 2 ≤ length (c .before .args .out .now) = pair-room (c .before .args .yes) (c .before .args .a) (c .before .args .b) _ _ (c .if1 .taken) (c .before .pre .2) in search needs
@@ -25,9 +19,6 @@ slice-write-out-2 c = let h : c .before .args .at + 2 ≤ length (c .before .arg
 
 add-result : tie.Need-add-result
 add-result c = let h : c .before .args .at + 2 ≤ length (c .before .args .out .now) = pair-room (c .before .args .yes) (c .before .args .a) (c .before .args .b) _ _ (c .if1 .taken) (c .before .pre .2) in search needs
-
-same-length : tie.Need-same-length
-same-length c = search needs
 
 returns : tie.Need-returns
 unfolding pairIf
@@ -41,12 +32,12 @@ pub put-if-spec : {M : Type 1} → statement M
 put-if-spec =
     tie.close
     (tie.spec
-    cast-out
+    (λ c. search needs)
     slice-write-out
-    cast-out-2
+    (λ c. search needs)
     add-out
     slice-write-out-2
     add-result
-    same-length
+    (λ c. search needs)
     returns
     returns-2)

@@ -18,9 +18,6 @@ Inv-loop l q s out₀ n f next₀ a₀ out next a = (a ≤ n) × (length out ≡
 abbrev μ-loop : tie.MeasureT-loop
 μ-loop l q s out₀ n f next₀ a₀ out next a = n - a
 
-all-feeders-requires : tie.Need-all-feeders-requires Inv-loop μ-loop
-all-feeders-requires c κs = search needs
-
 loop-holds : tie.Need-loop-holds Inv-loop μ-loop
 unfolding inOrder
 loop-holds c = (omega arith, refl, puts-none _ _)
@@ -29,17 +26,8 @@ put-row-requires : tie.Need-put-row-requires Inv-loop μ-loop
 unfolding pairBytes
 put-row-requires c κs = ((omega arith, omega arith), omega arith, c .before .before .before .all-feeders .ensures, next-room (λ x. pairRow (problem (c .before .before .before .before .before .before .args .l) (c .before .before .before .before .before .before .args .q)) (starts (c .before .before .before .before .before .before .args .s .now)) x (c .before .before .before .before .before .before .args .q .jobs)) (c .before .before .loop .a) (c .before .before .before .before .before .before .args .q .jobs) _ 0 (c .before .before .loop .next) (length (c .before .before .loop .out)) (c .before .loop-test .taken) refl (c .before .before .loop .inv .2 .next) (omega (arith, c .before .before .before .before .before .before .pre .1)))
 
-add-a : tie.Need-add-a Inv-loop μ-loop
-add-a c = search needs
-
-loop-less : tie.Need-loop-less Inv-loop μ-loop
-loop-less c = search needs
-
 loop-again : tie.Need-loop-again Inv-loop μ-loop
 loop-again c = (omega arith, c .before .out .given ∙ c .before .before .before .before .before .loop .inv .1, puts-next (λ x. pairRow (problem (c .before .before .before .before .before .before .before .before .before .args .l) (c .before .before .before .before .before .before .before .before .before .args .q)) (starts (c .before .before .before .before .before .before .before .before .before .args .s .now)) x (c .before .before .before .before .before .before .before .before .before .args .q .jobs)) (c .before .before .before .before .before .loop .a) (c .before .before .before .before .before .loop .inv .2) (c .before .before .put-row .ensures))
-
-same-length : tie.Need-same-length Inv-loop μ-loop
-same-length c = c .before .loop .inv .1
 
 returns : tie.Need-returns Inv-loop μ-loop
 unfolding pairBytes
@@ -51,11 +39,11 @@ put-pairs-spec =
     (tie.spec
     Inv-loop
     μ-loop
-    all-feeders-requires
+    (λ c κs. search needs)
     loop-holds
     put-row-requires
-    add-a
-    loop-less
+    (λ c. search needs)
+    (λ c. search needs)
     loop-again
-    same-length
+    (λ c. c .before .loop .inv .1)
     returns)

@@ -23,23 +23,11 @@ loop-holds : tie.Need-loop-holds Inv-loop μ-loop
 unfolding inOrder
 loop-holds c = (omega arith, refl, puts-none _ _)
 
-binds-requires : tie.Need-binds-requires Inv-loop μ-loop
-binds-requires c κs = search needs
-
 put-if-requires : tie.Need-put-if-requires Inv-loop μ-loop
 put-if-requires c κs = (omega arith, omega arith, next-room (λ b. pairIf (binds (problem (c .before .before .before .before .before .before .args .l) (c .before .before .before .before .before .before .args .q)) (starts (c .before .before .before .before .before .before .args .s .now)) (c .before .before .before .before .before .before .args .a) b) (c .before .before .before .before .before .before .args .a) b) (c .before .before .before .loop .b) (c .before .before .before .before .before .before .args .q .jobs) _ (c .before .before .before .before .before .before .args .at) (c .before .before .before .loop .next) (length (c .before .before .before .loop .out)) (c .before .before .loop-test .taken) (ap (λ (y : Bool). pairIf y (c .before .before .before .before .before .before .args .a) (c .before .before .before .loop .b)) (c .binds .ensures)) (c .before .before .before .loop .inv .2 .next) (omega (arith, c .before .before .before .before .before .before .pre .3)))
 
-add-b : tie.Need-add-b Inv-loop μ-loop
-add-b c = search needs
-
-loop-less : tie.Need-loop-less Inv-loop μ-loop
-loop-less c = search needs
-
 loop-again : tie.Need-loop-again Inv-loop μ-loop
 loop-again c = (omega arith, c .before .out .given ∙ c .before .before .before .before .before .before .loop .inv .1, puts-next (λ b. pairIf (binds (problem (c .before .before .before .before .before .before .before .before .before .args .l) (c .before .before .before .before .before .before .before .before .before .args .q)) (starts (c .before .before .before .before .before .before .before .before .before .args .s .now)) (c .before .before .before .before .before .before .before .before .before .args .a) b) (c .before .before .before .before .before .before .before .before .before .args .a) b) (c .before .before .before .before .before .before .loop .b) (c .before .before .before .before .before .before .loop .inv .2) (subst (λ (y : Bool). Puts (pairIf y (c .before .before .before .before .before .before .before .before .before .args .a) (c .before .before .before .before .before .before .loop .b)) (c .before .before .before .before .before .before .loop .next) (c .before .before .before .before .before .before .loop .out) (c .before .before .put-if .last .0) (c .before .before .put-if .result)) (c .before .before .before .binds .ensures) (c .before .before .put-if .ensures)))
-
-same-length : tie.Need-same-length Inv-loop μ-loop
-same-length c = c .before .loop .inv .1
 
 returns : tie.Need-returns Inv-loop μ-loop
 returns c = let e : c .before .loop .b ≡ c .before .before .before .before .args .q .jobs = omega arith in rw e at (c .before .loop .inv .2)
@@ -51,10 +39,10 @@ put-row-spec =
     Inv-loop
     μ-loop
     loop-holds
-    binds-requires
+    (λ c κs. search needs)
     put-if-requires
-    add-b
-    loop-less
+    (λ c. search needs)
+    (λ c. search needs)
     loop-again
-    same-length
+    (λ c. c .before .loop .inv .1)
     returns)

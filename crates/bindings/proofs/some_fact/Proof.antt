@@ -6,12 +6,9 @@ use Rattle.facts.specs.Least.{any}
 use Rattle.bindings.proofs.some_fact.Statement.{statement}
 use Rattle.bindings.proofs.some_fact.Tie as tie
 
-lowest-requires : tie.Need-lowest-requires
-lowest-requires c κs = search needs
-
 returns : tie.Need-returns
 unfolding any
 returns c = ap (λ (x : ℕ). ltb x 64) (c .lowest .ensures)
 
 pub some-fact-spec : {M : Type 1} → statement M
-some-fact-spec = tie.close (tie.spec lowest-requires returns)
+some-fact-spec = tie.close (tie.spec (λ c κs. search needs) returns)

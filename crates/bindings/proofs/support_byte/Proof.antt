@@ -5,18 +5,9 @@ use Rattle.bindings.specs.Bindings.{rowByte}
 use Rattle.bindings.proofs.support_byte.Statement.{statement}
 use Rattle.bindings.proofs.support_byte.Tie as tie
 
-has-requires : tie.Need-has-requires
-has-requires c κs = search needs
-
 returns : tie.Need-returns
 unfolding rowByte
 returns c = pick-start _ _ (sym (c .before .has .ensures) ∙ c .if1 .taken)
-
-first-giver-requires : tie.Need-first-giver-requires
-first-giver-requires c κs = search needs
-
-cast-result : tie.Need-cast-result
-cast-result c = search needs
 
 returns-2 : tie.Need-returns-2
 unfolding rowByte
@@ -28,4 +19,4 @@ returns-3 c = pick-none _ _ _ (sym (c .before .before .before .has .ensures) ∙
 
 pub support-byte-spec : {M : Type 1} → statement M
 support-byte-spec =
-    tie.close (tie.spec has-requires returns first-giver-requires cast-result returns-2 returns-3)
+    tie.close (tie.spec (λ c κs. search needs) returns (λ c κs. search needs) (λ c. search needs) returns-2 returns-3)

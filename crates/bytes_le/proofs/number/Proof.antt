@@ -14,24 +14,12 @@ Inv-loop bytes at size end value₀ i₀ value i = (i ≤ size) × (value ≡ nu
 abbrev μ-loop : tie.MeasureT-loop
 μ-loop bytes at size end value₀ i₀ value i = size - i
 
-add-end : tie.Need-add-end Inv-loop μ-loop
-add-end c = search needs
-
 loop-holds : tie.Need-loop-holds Inv-loop μ-loop
 unfolding number
 loop-holds c = (omega arith, refl, omega arith)
 
 mul-value : tie.Need-mul-value Inv-loop μ-loop
 mul-value c = let h = holds-more _ _ 0 (c .before .loop .inv .2) (omega arith) in let m = within-eight (c .before .loop .i + 1) _ (omega arith) h in omega arith
-
-sub-value : tie.Need-sub-value Inv-loop μ-loop
-sub-value c = search needs
-
-sub-value-2 : tie.Need-sub-value-2 Inv-loop μ-loop
-sub-value-2 c = search needs
-
-shared-slice-read-value : tie.Need-shared-slice-read-value Inv-loop μ-loop
-shared-slice-read-value c = search needs
 
 cast-value : tie.Need-cast-value Inv-loop μ-loop
 cast-value c =
@@ -42,12 +30,6 @@ add-value : tie.Need-add-value Inv-loop μ-loop
 add-value c =
     let a = c .before .before .before .args in
     let h = holds-more _ _ _ (c .before .before .loop .inv .2) (c .shared-slice-known .given (a .at + a .size - 1 - c .before .before .loop .i) .fits) in let m = within-eight (c .before .before .loop .i + 1) _ (omega arith) h in omega arith
-
-add-i : tie.Need-add-i Inv-loop μ-loop
-add-i c = search needs
-
-loop-less : tie.Need-loop-less Inv-loop μ-loop
-loop-less c = search needs
 
 loop-again : tie.Need-loop-again Inv-loop μ-loop
 loop-again c =
@@ -65,15 +47,15 @@ number-spec =
     (tie.spec
     Inv-loop
     μ-loop
-    add-end
+    (λ c. search needs)
     loop-holds
     mul-value
-    sub-value
-    sub-value-2
-    shared-slice-read-value
+    (λ c. search needs)
+    (λ c. search needs)
+    (λ c. search needs)
     cast-value
     add-value
-    add-i
-    loop-less
+    (λ c. search needs)
+    (λ c. search needs)
     loop-again
     returns)

@@ -6,21 +6,6 @@ use borrow.Author.Needs.{needs}
 use Rattle.bytes_le.proofs.put.Statement.{statement}
 use Rattle.bytes_le.proofs.put.Tie as tie
 
-sub-put-first : tie.Need-sub-put-first
-sub-put-first c = search needs
-
-part-put-first-start : tie.Need-part-put-first-start
-part-put-first-start c = search needs
-
-part-put-first-end : tie.Need-part-put-first-end
-part-put-first-end c = search needs
-
-put-first-requires : tie.Need-put-first-requires
-put-first-requires c κs = search needs
-
-same-length : tie.Need-same-length
-same-length c = search needs
-
 returns : tie.Need-returns
 returns c =
     let a = c .before .before .before .before .before .args in
@@ -29,10 +14,4 @@ returns c =
 pub put-spec : {M : Type 1} → statement M
 put-spec =
     tie.close
-    (tie.spec
-    sub-put-first
-    part-put-first-start
-    part-put-first-end
-    put-first-requires
-    same-length
-    returns)
+    (tie.spec (λ c. search needs) (λ c. search needs) (λ c. search needs) (λ c κs. search needs) (λ c. search needs) returns)

@@ -21,19 +21,10 @@ loop-holds : tie.Need-loop-holds Inv-loop μ-loop
 unfolding little
 loop-holds c = (omega arith, sym (div-one _), refl)
 
-cast-out : tie.Need-cast-out Inv-loop μ-loop
-cast-out c = omega arith
-
 slice-write-out : tie.Need-slice-write-out Inv-loop μ-loop
 slice-write-out c =
     let a = c .before .before .args in
     omega (arith, ap length (c .before .loop .inv .2), length-over (little (c .before .loop .i) (a .value)) (a .out .now) (omega (arith, length-little (c .before .loop .i) (a .value))))
-
-add-i : tie.Need-add-i Inv-loop μ-loop
-add-i c = search needs
-
-loop-less : tie.Need-loop-less Inv-loop μ-loop
-loop-less c = search needs
 
 loop-again : tie.Need-loop-again Inv-loop μ-loop
 loop-again c =
@@ -57,10 +48,10 @@ put-first-spec =
     Inv-loop
     μ-loop
     loop-holds
-    cast-out
+    (λ c. omega arith)
     slice-write-out
-    add-i
-    loop-less
+    (λ c. search needs)
+    (λ c. search needs)
     loop-again
     same-length
     returns)

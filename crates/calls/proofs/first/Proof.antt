@@ -6,11 +6,7 @@ use Prim.Native.Nat.{_-_}
 use Rattle.calls.proofs.first.Statement.{statement}
 use Rattle.calls.proofs.first.Tie as tie
 
-returns : tie.Need-returns
-returns c = (omega arith, sym (length-take-le (c .before .args .n) (c .before .args .bytes .now) (omega arith)))
-
-returns-2 : tie.Need-returns-2
-returns-2 c = (omega arith, sym (ap length (take-length (c .before .args .bytes .now))))
-
 pub first-spec : {M : Type 1} → statement M
-first-spec = tie.close (tie.spec returns returns-2)
+first-spec = tie.close (tie.spec
+    (λ c. (omega arith, sym (length-take-le (c .before .args .n) (c .before .args .bytes .now) (omega arith))))
+    (λ c. (omega arith, sym (ap length (take-length (c .before .args .bytes .now))))))

@@ -7,15 +7,9 @@ use borrow.Author.Needs.{needs}
 use Rattle.calls.proofs.float.Statement.{statement}
 use Rattle.calls.proofs.float.Tie as tie
 
-returns : tie.Need-returns
-returns c = search needs
-
 float-from-bits-result : tie.Need-float-from-bits-result
 unfolding nanBits
 float-from-bits-result c = let b = c .before .args .bits in not-T (nanBits binary64 b) (λ x. T-not (eqb (b % 4503599627370496) 0) (and-r (eqb (b % 9223372036854775808 / 4503599627370496) 2047) _ x) (eqb-of {m = b % 4503599627370496} {n = 0} (let e = eqb→eq (b % 9223372036854775808 / 4503599627370496) 2047 (and-l (eqb (b % 9223372036854775808 / 4503599627370496) 2047) _ x) in omega arith)))
 
-returns-2 : tie.Need-returns-2
-returns-2 c = search needs
-
 pub float-spec : {M : Type 1} → statement M
-float-spec = tie.close (tie.spec returns float-from-bits-result returns-2)
+float-spec = tie.close (tie.spec (λ c. search needs) float-from-bits-result (λ c. search needs))

@@ -21,32 +21,8 @@ loop-holds : tie.Need-loop-holds Inv-loop μ-loop
 unfolding filled
 loop-holds c = (omega arith, refl, refl)
 
-mul-out : tie.Need-mul-out Inv-loop μ-loop
-mul-out c = search needs
-
-array-read-out : tie.Need-array-read-out Inv-loop μ-loop
-array-read-out c = search needs
-
-mul-out-2 : tie.Need-mul-out-2 Inv-loop μ-loop
-mul-out-2 c = omega (arith, c .before .before .good .0 .1, c .before .before .pre .1)
-
-slice-write-out : tie.Need-slice-write-out Inv-loop μ-loop
-slice-write-out c = omega (arith, c .before .loop .inv .2, c .before .before .pre .1)
-
-add-i : tie.Need-add-i Inv-loop μ-loop
-add-i c = search needs
-
-loop-less : tie.Need-loop-less Inv-loop μ-loop
-loop-less c = search needs
-
 loop-again : tie.Need-loop-again Inv-loop μ-loop
 loop-again c = (omega arith, ap (λ (ys : List ℕ). set ys (c .before .loop .i) (entry (c .before .before .args .t2) (c .before .loop .i))) (c .before .loop .inv .1) ∙ filled-more (entry (c .before .before .args .t2)) (c .before .loop .i) (now (c .before .before .args .out)), simp length-set (c .before .loop .inv .2))
-
-same-length : tie.Need-same-length Inv-loop μ-loop
-same-length c = c .before .loop .inv .2
-
-returns : tie.Need-returns Inv-loop μ-loop
-returns c = let e : c .before .loop .i ≡ c .before .before .args .n = omega arith in rw (← e) (c .before .loop .inv .1)
 
 pub fill-spec : {M : Type 1} → statement M
 fill-spec =
@@ -55,12 +31,12 @@ fill-spec =
     Inv-loop
     μ-loop
     loop-holds
-    mul-out
-    array-read-out
-    mul-out-2
-    slice-write-out
-    add-i
-    loop-less
+    (λ c. search needs)
+    (λ c. search needs)
+    (λ c. omega (arith, c .before .before .good .0 .1, c .before .before .pre .1))
+    (λ c. omega (arith, c .before .loop .inv .2, c .before .before .pre .1))
+    (λ c. search needs)
+    (λ c. search needs)
     loop-again
-    same-length
-    returns)
+    (λ c. c .before .loop .inv .2)
+    (λ c. let e : c .before .loop .i ≡ c .before .before .args .n = omega arith in rw (← e) (c .before .loop .inv .1)))

@@ -16,29 +16,8 @@ Inv-loop l q est all₀ p₀ all p = (p ≤ 64) × (length all ≡ 64) × Costs 
 abbrev μ-loop : tie.MeasureT-loop
 μ-loop l q est all₀ p₀ all p = 64 - p
 
-loop-holds : tie.Need-loop-holds Inv-loop μ-loop
-loop-holds c = (omega arith, search needs, λ k h. absurd (omega arith))
-
-cost-requires : tie.Need-cost-requires Inv-loop μ-loop
-cost-requires c κs = search needs
-
-mul-all : tie.Need-mul-all Inv-loop μ-loop
-mul-all c = search needs
-
-array-write-all : tie.Need-array-write-all Inv-loop μ-loop
-array-write-all c = omega (arith, c .before .before .loop .inv .1)
-
-add-p : tie.Need-add-p Inv-loop μ-loop
-add-p c = search needs
-
-loop-less : tie.Need-loop-less Inv-loop μ-loop
-loop-less c = search needs
-
 loop-again : tie.Need-loop-again Inv-loop μ-loop
 loop-again c = (omega arith, simp length-set (c .before .before .loop .inv .1), stored _ (c .before .before .loop .all) (c .before .before .loop .p) _ (omega (arith, c .before .before .loop .inv .1)) (c .before .before .loop .inv .2) (c .cost .ensures))
-
-returns : tie.Need-returns Inv-loop μ-loop
-returns c = λ k h. c .before .loop .inv .2 k (omega arith)
 
 pub costs-spec : {M : Type 1} → statement M
 costs-spec =
@@ -46,11 +25,11 @@ costs-spec =
     (tie.spec
     Inv-loop
     μ-loop
-    loop-holds
-    cost-requires
-    mul-all
-    array-write-all
-    add-p
-    loop-less
+    (λ c. (omega arith, search needs, λ k h. absurd (omega arith)))
+    (λ c κs. search needs)
+    (λ c. search needs)
+    (λ c. omega (arith, c .before .before .loop .inv .1))
+    (λ c. search needs)
+    (λ c. search needs)
     loop-again
-    returns)
+    (λ c. λ k h. c .before .loop .inv .2 k (omega arith)))

@@ -4,9 +4,6 @@ use borrow.Author.Needs.{needs}
 use Rattle.estimates.proofs.earliest.Statement.{statement}
 use Rattle.estimates.proofs.earliest.Tie as tie
 
-call-fault-requires : tie.Need-call-fault-requires
-call-fault-requires c κs = search needs
-
 returns : tie.Need-returns
 returns c = refuses (c .before .before .before .before .before .args .l) (c .before .before .before .before .before .args .q) (now (c .before .before .before .before .before .args .out)) (c .before .before .call-fault .ensures) (c .if1 .taken)
 
@@ -16,23 +13,10 @@ estimate-all-requires c κs = few (c .before .before .before .before .before .ar
 fill-requires : tie.Need-fill-requires
 fill-requires c κs = (few (c .before .before .before .before .before .before .before .args .l) (c .before .before .before .before .before .before .before .args .q) (now (c .before .before .before .before .before .before .before .args .out)) (c .before .before .before .before .call-fault .ensures) (c .before .before .if1 .left), room (c .before .before .before .before .before .before .before .args .l) (c .before .before .before .before .before .before .before .args .q) (now (c .before .before .before .before .before .before .before .args .out)) (c .before .before .before .before .call-fault .ensures) (c .before .before .if1 .left))
 
-done-requires : tie.Need-done-requires
-done-requires c κs = search needs
-
-same-length : tie.Need-same-length
-same-length c = search needs
-
 returns-2 : tie.Need-returns-2
 returns-2 c = gives (c .before .before .before .before .before .before .before .before .before .before .before .args .l) (c .before .before .before .before .before .before .before .before .before .before .before .args .q) (now (c .before .before .before .before .before .before .before .before .before .before .before .args .out)) (c .before .before .before .before .before .estimate-all .result) _ (c .before .before .before .before .before .before .before .before .call-fault .ensures) (c .before .before .before .before .before .before .if1 .left) (c .before .before .before .before .before .estimate-all .ensures) (c .done .ensures) (c .before .before .before .fill .ensures)
 
 pub earliest-spec : {M : Type 1} → statement M
 earliest-spec =
     tie.close
-    (tie.spec
-    call-fault-requires
-    returns
-    estimate-all-requires
-    fill-requires
-    done-requires
-    same-length
-    returns-2)
+    (tie.spec (λ c κs. search needs) returns estimate-all-requires fill-requires (λ c κs. search needs) (λ c. search needs) returns-2)

@@ -18,12 +18,6 @@ abbrev μ-loop : tie.MeasureT-loop
 loop-holds : tie.Need-loop-holds Inv-loop μ-loop
 loop-holds c = (search needs, high-first (problem (c .args .l) (c .args .q)) refl (λ i. refl) (replicate 24 65535) (λ i h. getD-replicate 24 i 65535 0 (omega arith)))
 
-round-requires : tie.Need-round-requires Inv-loop μ-loop
-round-requires c κs = search needs
-
-same-requires : tie.Need-same-requires Inv-loop μ-loop
-same-requires c κs = search needs
-
 returns : tie.Need-returns Inv-loop μ-loop
 returns c = solved (problem (c .before .before .before .before .args .l) (c .before .before .before .before .args .q)) refl (λ i. refl) (c .before .before .before .loop .est) (c .before .before .round .result) (c .before .before .round .ensures) (c .before .same .ensures .yea (c .if1 .taken))
 
@@ -36,4 +30,4 @@ loop-again c = (search needs, high-next (problem (c .before .before .before .bef
 pub estimate-all-spec : {M : Type 1} → statement M
 estimate-all-spec =
     tie.close
-    (tie.spec Inv-loop μ-loop loop-holds round-requires same-requires returns loop-less loop-again)
+    (tie.spec Inv-loop μ-loop loop-holds (λ c κs. search needs) (λ c κs. search needs) returns loop-less loop-again)

@@ -17,29 +17,8 @@ loop-holds : tie.Need-loop-holds Inv-loop μ-loop
 unfolding greatest
 loop-holds c = (omega arith, refl)
 
-mul-cost-if : tie.Need-mul-cost-if Inv-loop μ-loop
-mul-cost-if c = search needs
-
-array-read-cost-if : tie.Need-array-read-cost-if Inv-loop μ-loop
-array-read-cost-if c = search needs
-
-cost-if-requires : tie.Need-cost-if-requires Inv-loop μ-loop
-cost-if-requires c κs = search needs
-
-higher-requires : tie.Need-higher-requires Inv-loop μ-loop
-higher-requires c κs = search needs
-
-add-p : tie.Need-add-p Inv-loop μ-loop
-add-p c = search needs
-
-loop-less : tie.Need-loop-less Inv-loop μ-loop
-loop-less c = search needs
-
 loop-again : tie.Need-loop-again Inv-loop μ-loop
 loop-again c = (omega arith, c .higher .ensures ∙ ap₂ max (c .before .cost-if .ensures) (c .before .before .before .loop .inv .1) ∙ greatest-more (c .before .before .before .before .args .conditions) (c .before .before .before .before .args .t2) (c .before .before .before .loop .p))
-
-returns : tie.Need-returns Inv-loop μ-loop
-returns c = let e : c .before .loop .p ≡ 64 = omega arith in rw e at (c .before .loop .inv .1)
 
 pub greatest-spec : {M : Type 1} → statement M
 greatest-spec =
@@ -48,11 +27,11 @@ greatest-spec =
     Inv-loop
     μ-loop
     loop-holds
-    mul-cost-if
-    array-read-cost-if
-    cost-if-requires
-    higher-requires
-    add-p
-    loop-less
+    (λ c. search needs)
+    (λ c. search needs)
+    (λ c κs. search needs)
+    (λ c κs. search needs)
+    (λ c. search needs)
+    (λ c. search needs)
     loop-again
-    returns)
+    (λ c. let e : c .before .loop .p ≡ 64 = omega arith in rw e at (c .before .loop .inv .1)))

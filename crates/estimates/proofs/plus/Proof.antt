@@ -4,18 +4,6 @@ use borrow.Author.Needs.{needs}
 use Rattle.estimates.proofs.plus.Statement.{statement}
 use Rattle.estimates.proofs.plus.Tie as tie
 
-wide-requires : tie.Need-wide-requires
-wide-requires c κs = search needs
-
-wide-requires-2 : tie.Need-wide-requires-2
-wide-requires-2 c κs = search needs
-
-add-sum : tie.Need-add-sum
-add-sum c = search needs
-
-cast-result : tie.Need-cast-result
-cast-result c = search needs
-
 returns : tie.Need-returns
 unfolding plus
 returns c = omega arith
@@ -26,4 +14,4 @@ returns-2 c = omega arith
 
 pub plus-spec : {M : Type 1} → statement M
 plus-spec =
-    tie.close (tie.spec wide-requires wide-requires-2 add-sum cast-result returns returns-2)
+    tie.close (tie.spec (λ c κs. search needs) (λ c κs. search needs) (λ c. search needs) (λ c. search needs) returns returns-2)

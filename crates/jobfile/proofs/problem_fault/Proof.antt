@@ -10,9 +10,6 @@ use borrow.Author.Needs.{needs}
 use Rattle.jobfile.proofs.problem_fault.Statement.{statement}
 use Rattle.jobfile.proofs.problem_fault.Tie as tie
 
-call-fault-requires : tie.Need-call-fault-requires
-call-fault-requires c κs = search needs
-
 returns : tie.Need-returns
 returns c =
     let a = c .before .before .before .args in
@@ -21,18 +18,12 @@ returns c =
       order = λ z. absurd (c .if1 .taken z);
     }
 
-refuse-requires : tie.Need-refuse-requires
-refuse-requires c κs = search needs
-
 returns-2 : tie.Need-returns-2
 unfolding boundCheck
 returns-2 c =
     let a = c .before .before .before .before .before .before .args in
     judges-no (c .refuse .ensures) (problem-on (a .short) (a .l) (a .q) (sym (ap (λ (x : Answer). x .number) (c .before .before .before .before .before .call-fault .ensures .says)) ∙ c .before .before .before .if1 .left)
     ∙ if-hit _ 9 0 _ (lt→ltb 2880 _ (c .before .if2 .taken))) (omega arith)
-
-done-requires : tie.Need-done-requires
-done-requires c κs = search needs
 
 returns-3 : tie.Need-returns-3
 unfolding boundCheck
@@ -47,4 +38,4 @@ returns-3 c =
 pub problem-fault-spec : {M : Type 1} → statement M
 problem-fault-spec =
     tie.close
-    (tie.spec call-fault-requires returns refuse-requires returns-2 done-requires returns-3)
+    (tie.spec (λ c κs. search needs) returns (λ c κs. search needs) returns-2 (λ c κs. search needs) returns-3)

@@ -16,26 +16,11 @@ Inv-loop records n i₀ i = (i ≤ n) × ((k : ℕ) → k < i → T (spoilt reco
 abbrev μ-loop : tie.MeasureT-loop
 μ-loop records n i₀ i = n - i
 
-loop-holds : tie.Need-loop-holds Inv-loop μ-loop
-loop-holds c = (omega arith, λ k h. absurd (omega arith))
-
-spoilt-requires : tie.Need-spoilt-requires Inv-loop μ-loop
-spoilt-requires c κs = search needs
-
 returns : tie.Need-returns Inv-loop μ-loop
 returns c = same true _ (λ x. any-of _ _ (c .before .before .before .loop .i) (omega arith) (test-yes (c .before .spoilt .ensures) (c .if1 .taken))) (λ x. tt)
 
-add-i : tie.Need-add-i Inv-loop μ-loop
-add-i c = search needs
-
-loop-less : tie.Need-loop-less Inv-loop μ-loop
-loop-less c = search needs
-
 loop-again : tie.Need-loop-again Inv-loop μ-loop
 loop-again c = (omega arith, below-more _ _ (c .before .before .before .loop .inv .1) (test-no (c .before .spoilt .ensures) (c .if1 .left)))
-
-returns-2 : tie.Need-returns-2 Inv-loop μ-loop
-returns-2 c = any-none _ _ (λ k l. c .before .loop .inv .1 k (omega arith))
 
 pub any-spoilt-spec : {M : Type 1} → statement M
 any-spoilt-spec =
@@ -43,10 +28,10 @@ any-spoilt-spec =
     (tie.spec
     Inv-loop
     μ-loop
-    loop-holds
-    spoilt-requires
+    (λ c. (omega arith, λ k h. absurd (omega arith)))
+    (λ c κs. search needs)
     returns
-    add-i
-    loop-less
+    (λ c. search needs)
+    (λ c. search needs)
     loop-again
-    returns-2)
+    (λ c. any-none _ _ (λ k l. c .before .loop .inv .1 k (omega arith))))

@@ -16,21 +16,6 @@ Inv-loop records n room l₀ i₀ l i = (i ≤ n) × (l ≡ firstOf records i ro
 abbrev μ-loop : tie.MeasureT-loop
 μ-loop records n room l₀ i₀ l i = n - i
 
-no-jobs-requires : tie.Need-no-jobs-requires Inv-loop μ-loop
-no-jobs-requires c κs = search needs
-
-loop-holds : tie.Need-loop-holds Inv-loop μ-loop
-loop-holds c = (omega arith, c .no-jobs .ensures ∙ none-tabled _ _ _ _ _)
-
-with-record-requires : tie.Need-with-record-requires Inv-loop μ-loop
-with-record-requires c κs = omega arith
-
-add-i : tie.Need-add-i Inv-loop μ-loop
-add-i c = search needs
-
-loop-less : tie.Need-loop-less Inv-loop μ-loop
-loop-less c = search needs
-
 loop-again : tie.Need-loop-again Inv-loop μ-loop
 loop-again c = (omega arith, c .with-record .ensures ∙ ap (λ (x : Loaded). withRecord x (c .before .before .before .before .before .args .records .now) (c .before .before .loop .i)) (c .before .before .loop .inv .1) ∙ first-more _ _ _)
 
@@ -45,10 +30,10 @@ first-records-spec =
     (tie.spec
     Inv-loop
     μ-loop
-    no-jobs-requires
-    loop-holds
-    with-record-requires
-    add-i
-    loop-less
+    (λ c κs. search needs)
+    (λ c. (omega arith, c .no-jobs .ensures ∙ none-tabled _ _ _ _ _))
+    (λ c κs. omega arith)
+    (λ c. search needs)
+    (λ c. search needs)
     loop-again
     returns)

@@ -5,11 +5,5 @@ use borrow.Author.Needs.{needs}
 use Rattle.jobfile_read.proofs.nothing.Statement.{statement}
 use Rattle.jobfile_read.proofs.nothing.Tie as tie
 
-no-jobs-requires : tie.Need-no-jobs-requires
-no-jobs-requires c κs = search needs
-
-returns : tie.Need-returns
-returns c = ap (λ (l : Loaded). whole (c .before .args .a) noAsk l) (c .no-jobs .ensures)
-
 pub nothing-spec : {M : Type 1} → statement M
-nothing-spec = tie.close (tie.spec no-jobs-requires returns)
+nothing-spec = tie.close (tie.spec (λ c κs. search needs) (λ c. ap (λ (l : Loaded). whole (c .before .args .a) noAsk l) (c .no-jobs .ensures)))

@@ -10,28 +10,13 @@ use borrow.Author.Needs.{needs}
 use Rattle.jobfile_read.proofs.read_file.Statement.{statement}
 use Rattle.jobfile_read.proofs.read_file.Tie as tie
 
-refuse-requires : tie.Need-refuse-requires
-refuse-requires c κs = search needs
-
-nothing-requires : tie.Need-nothing-requires
-nothing-requires c κs = search needs
-
 returns : tie.Need-returns
 unfolding readChecks
 returns c = gives-no _ _ 1 (c .nothing .ensures) (c .before .refuse .ensures) (if-hit _ 1 0 _ (lt→ltb 65536 _ (c .before .before .if1 .taken))) (omega arith)
 
-refuse-requires-2 : tie.Need-refuse-requires-2
-refuse-requires-2 c κs = search needs
-
-nothing-requires-2 : tie.Need-nothing-requires-2
-nothing-requires-2 c κs = search needs
-
 returns-2 : tie.Need-returns-2
 unfolding readChecks
 returns-2 c = gives-no _ _ 2 (c .nothing2 .ensures) (c .before .refuse2 .ensures) (if-pass _ 1 0 _ (λ h. omega (arith, ltb→lt 65536 (length (c .before .before .before .before .before .args .file .now)) h)) ∙ if-hit _ 2 0 _ (lt→ltb _ 24 (c .before .before .if2 .taken))) (omega arith)
-
-read-save-requires : tie.Need-read-save-requires
-read-save-requires c κs = search needs
 
 returns-3 : tie.Need-returns-3
 unfolding readChecks
@@ -43,11 +28,11 @@ pub read-file-spec : {M : Type 1} → statement M
 read-file-spec =
     tie.close
     (tie.spec
-    refuse-requires
-    nothing-requires
+    (λ c κs. search needs)
+    (λ c κs. search needs)
     returns
-    refuse-requires-2
-    nothing-requires-2
+    (λ c κs. search needs)
+    (λ c κs. search needs)
     returns-2
-    read-save-requires
+    (λ c κs. search needs)
     returns-3)

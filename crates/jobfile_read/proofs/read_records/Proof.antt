@@ -26,29 +26,8 @@ says c =
     ∙ ap (λ (t : Loaded). answer (problemChecks false t (c .before .before .before .before .before .before .args .q)) 0 0) (table-is (c .before))
     ∙ said 0 0 (if-pass _ 2 0 _ (test-no (c .before .before .before .before .any-spoilt .ensures) (c .before .before .before .if1 .left)))
 
-any-spoilt-requires : tie.Need-any-spoilt-requires
-any-spoilt-requires c κs = search needs
-
-refuse-requires : tie.Need-refuse-requires
-refuse-requires c κs = search needs
-
-nothing-requires : tie.Need-nothing-requires
-nothing-requires c κs = search needs
-
 returns : tie.Need-returns
 returns c = gives-no (c .before .before .before .before .before .args .q) _ 2 (c .nothing .ensures) (c .before .refuse .ensures) (if-hit _ 2 0 _ (test-yes (c .before .before .before .any-spoilt .ensures) (c .before .before .if1 .taken))) (omega arith)
-
-held-requires : tie.Need-held-requires
-held-requires c κs = search needs
-
-first-records-requires : tie.Need-first-records-requires
-first-records-requires c κs = search needs
-
-problem-fault-requires : tie.Need-problem-fault-requires
-problem-fault-requires c κs = search needs
-
-nothing-requires-2 : tie.Need-nothing-requires-2
-nothing-requires-2 c κs = search needs
 
 returns-2 : tie.Need-returns-2
 returns-2 c =
@@ -65,13 +44,13 @@ pub read-records-spec : {M : Type 1} → statement M
 read-records-spec =
     tie.close
     (tie.spec
-    any-spoilt-requires
-    refuse-requires
-    nothing-requires
+    (λ c κs. search needs)
+    (λ c κs. search needs)
+    (λ c κs. search needs)
     returns
-    held-requires
-    first-records-requires
-    problem-fault-requires
-    nothing-requires-2
+    (λ c κs. search needs)
+    (λ c κs. search needs)
+    (λ c κs. search needs)
+    (λ c κs. search needs)
     returns-2
     returns-3)

@@ -5,14 +5,11 @@ use borrow.Author.Needs.{needs}
 use Rattle.jobfile_read.proofs.too_far.Statement.{statement}
 use Rattle.jobfile_read.proofs.too_far.Tie as tie
 
-mul-if1 : tie.Need-mul-if1
-mul-if1 c = search needs
-
 returns : tie.Need-returns
 returns c = record { says = simp (lt-ltb _ _ (c .if1 .taken)); fails = λ e. absurd (true≢false (sym (lt-ltb _ _ (c .if1 .taken)) ∙ e)) }
 
-returns-2 : tie.Need-returns-2
-returns-2 c = record { says = simp (le-ltb _ _ (c .if1 .left)); fails = λ e. (c .if1 .left, ltb-false _ _ e) }
-
 pub too-far-spec : {M : Type 1} → statement M
-too-far-spec = tie.close (tie.spec mul-if1 returns returns-2)
+too-far-spec = tie.close (tie.spec
+    (λ c. search needs)
+    returns
+    (λ c. record { says = simp (le-ltb _ _ (c .if1 .left)); fails = λ e. (c .if1 .left, ltb-false _ _ e) }))

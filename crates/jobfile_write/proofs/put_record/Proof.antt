@@ -9,51 +9,6 @@ use borrow.Author.Needs.{needs}
 use Rattle.jobfile_write.proofs.put_record.Statement.{statement}
 use Rattle.jobfile_write.proofs.put_record.Tie as tie
 
-mul-put : tie.Need-mul-put
-mul-put c = search needs
-
-element-copy-out-put : tie.Need-element-copy-out-put
-element-copy-out-put c = search needs
-
-put-requires : tie.Need-put-requires
-put-requires c κs = search needs
-
-mul-put-2 : tie.Need-mul-put-2
-mul-put-2 c = search needs
-
-element-copy-out-put-2 : tie.Need-element-copy-out-put-2
-element-copy-out-put-2 c = search needs
-
-put-requires-2 : tie.Need-put-requires-2
-put-requires-2 c κs = search needs
-
-mul-put-3 : tie.Need-mul-put-3
-mul-put-3 c = search needs
-
-element-copy-out-put-3 : tie.Need-element-copy-out-put-3
-element-copy-out-put-3 c = search needs
-
-put-requires-3 : tie.Need-put-requires-3
-put-requires-3 c κs = search needs
-
-mul-wide : tie.Need-mul-wide
-mul-wide c = search needs
-
-element-copy-out-wide : tie.Need-element-copy-out-wide
-element-copy-out-wide c = search needs
-
-wide-requires : tie.Need-wide-requires
-wide-requires c κs = search needs
-
-put-requires-4 : tie.Need-put-requires-4
-put-requires-4 c κs = search needs
-
-put-requires-5 : tie.Need-put-requires-5
-put-requires-5 c κs = search needs
-
-same-length : tie.Need-same-length
-same-length c = search needs
-
 returns : tie.Need-returns
 returns c =
     let a = c .before .before .before .before .before .before .before .before .before .before .before .before .before .before .before .before .before .before .before .before .before .before .before .before .before .before .args in
@@ -80,19 +35,19 @@ pub put-record-spec : {M : Type 1} → statement M
 put-record-spec =
     tie.close
     (tie.spec
-    mul-put
-    element-copy-out-put
-    put-requires
-    mul-put-2
-    element-copy-out-put-2
-    put-requires-2
-    mul-put-3
-    element-copy-out-put-3
-    put-requires-3
-    mul-wide
-    element-copy-out-wide
-    wide-requires
-    put-requires-4
-    put-requires-5
-    same-length
+    (λ c. search needs)
+    (λ c. search needs)
+    (λ c κs. search needs)
+    (λ c. search needs)
+    (λ c. search needs)
+    (λ c κs. search needs)
+    (λ c. search needs)
+    (λ c. search needs)
+    (λ c κs. search needs)
+    (λ c. search needs)
+    (λ c. search needs)
+    (λ c κs. search needs)
+    (λ c κs. search needs)
+    (λ c κs. search needs)
+    (λ c. search needs)
     returns)

@@ -21,27 +21,6 @@ loop-holds : tie.Need-loop-holds Inv-loop μ-loop
 unfolding recordsOf
 loop-holds c = (omega arith, refl, refl)
 
-mul-at : tie.Need-mul-at Inv-loop μ-loop
-mul-at c = search needs
-
-sub-put-record : tie.Need-sub-put-record Inv-loop μ-loop
-sub-put-record c = search needs
-
-part-put-record-start : tie.Need-part-put-record-start Inv-loop μ-loop
-part-put-record-start c = search needs
-
-part-put-record-end : tie.Need-part-put-record-end Inv-loop μ-loop
-part-put-record-end c = search needs
-
-put-record-requires : tie.Need-put-record-requires Inv-loop μ-loop
-put-record-requires c κs = search needs
-
-add-i : tie.Need-add-i Inv-loop μ-loop
-add-i c = search needs
-
-loop-less : tie.Need-loop-less Inv-loop μ-loop
-loop-less c = search needs
-
 loop-again : tie.Need-loop-again Inv-loop μ-loop
 unfolding recordsOf
 loop-again c =
@@ -53,9 +32,6 @@ loop-again c =
     (tail-back (recordOf (a .l) (t .i)) (32 * t .i) (t .out) (c .before .before .put-record .ensures) (omega (arith, length-record (a .l) (t .i))))
     ∙ ap (λ (k : ℕ). over (recordsOf (a .l) k) xs) (sym (add-one (t .i))) in
     (omega arith, e, ap length e ∙ length-over (recordsOf (a .l) (t .i + 1)) xs (omega (arith, length-records (a .l) (t .i + 1))))
-
-same-length : tie.Need-same-length Inv-loop μ-loop
-same-length c = c .before .loop .inv .2
 
 returns : tie.Need-returns Inv-loop μ-loop
 returns c =
@@ -70,13 +46,13 @@ put-records-spec =
     Inv-loop
     μ-loop
     loop-holds
-    mul-at
-    sub-put-record
-    part-put-record-start
-    part-put-record-end
-    put-record-requires
-    add-i
-    loop-less
+    (λ c. search needs)
+    (λ c. search needs)
+    (λ c. search needs)
+    (λ c. search needs)
+    (λ c κs. search needs)
+    (λ c. search needs)
+    (λ c. search needs)
     loop-again
-    same-length
+    (λ c. c .before .loop .inv .2)
     returns)

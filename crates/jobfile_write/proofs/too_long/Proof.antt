@@ -17,17 +17,5 @@ returns-2 c =
     let a = c .before .before .args in
     record { says = sym (lt-ltb 65536 (lengthAfter (a .used) (a .jobs)) (omega arith)); fails = λ e. absurd (true≢false e) }
 
-mul-result : tie.Need-mul-result
-mul-result c = search needs
-
-add-result : tie.Need-add-result
-add-result c = search needs
-
-add-result-2 : tie.Need-add-result-2
-add-result-2 c = search needs
-
-returns-3 : tie.Need-returns-3
-returns-3 c = search needs
-
 pub too-long-spec : {M : Type 1} → statement M
-too-long-spec = tie.close (tie.spec returns returns-2 mul-result add-result add-result-2 returns-3)
+too-long-spec = tie.close (tie.spec returns returns-2 (λ c. search needs) (λ c. search needs) (λ c. search needs) (λ c. search needs))

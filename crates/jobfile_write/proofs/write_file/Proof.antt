@@ -27,29 +27,11 @@ room c =
     let h = c .before .before .problem-fault .ensures .order (c .if2 .left) in
     (ltb-false _ _ (h .0), h .1)
 
-too-long-requires : tie.Need-too-long-requires
-too-long-requires c κs = search needs
-
-refuse-requires : tie.Need-refuse-requires
-refuse-requires c κs = search needs
-
 returns : tie.Need-returns
 unfolding writeChecks
 returns c =
     let a = c .before .before .before .before .args in
     writes-no (a .l) (a .q) (a .used) (a .buf .now) (c .refuse .ensures) (if-hit _ 1 0 _ (test-yes (c .before .before .too-long .ensures .says) (c .before .if1 .taken))) (λ z. omega arith)
-
-mul-end : tie.Need-mul-end
-mul-end c = let r = short c in omega arith
-
-add-end : tie.Need-add-end
-add-end c = let r = short c in omega arith
-
-add-problem-fault : tie.Need-add-problem-fault
-add-problem-fault c = let r = short c in omega arith
-
-problem-fault-requires : tie.Need-problem-fault-requires
-problem-fault-requires c κs = search needs
 
 returns-2 : tie.Need-returns-2
 unfolding writeChecks
@@ -57,41 +39,11 @@ returns-2 c =
     let a = c .before .before .before .before .before .before .args in
     writes-no (a .l) (a .q) (a .used) (a .buf .now) (c .before .before .problem-fault .ensures .says) (if-pass _ 1 0 _ (test-no (c .before .before .before .before .too-long .ensures .says) (c .before .before .before .if1 .left))) (λ z. c .if2 .taken (ap (λ (x : Answer). x .number) (c .before .before .problem-fault .ensures .says) ∙ z))
 
-sub-put-records : tie.Need-sub-put-records
-sub-put-records c = let r = room c in omega arith
-
-part-put-records-start : tie.Need-part-put-records-start
-part-put-records-start c = let r = room c in omega arith
-
-part-put-records-end : tie.Need-part-put-records-end
-part-put-records-end c = search needs
-
-put-records-requires : tie.Need-put-records-requires
-put-records-requires c κs = let r = room (c .before) in (r .1, omega arith)
-
-sub-put-trailer : tie.Need-sub-put-trailer
-sub-put-trailer c = let r = room (c .before .before .before .before) in omega arith
-
-part-put-trailer-start : tie.Need-part-put-trailer-start
-part-put-trailer-start c = let r = room (c .before .before .before .before) in omega arith
-
-part-put-trailer-end : tie.Need-part-put-trailer-end
-part-put-trailer-end c = search needs
-
-put-trailer-requires : tie.Need-put-trailer-requires
-put-trailer-requires c κs = let r = room (c .before .before .before .before .before) in (r .1, omega arith)
-
 add-done : tie.Need-add-done
 add-done c = let r = short (c .before .before .before .before .before .before .before .before .before .before .before) in omega arith
 
 cast-done : tie.Need-cast-done
 cast-done c = let r = short (c .before .before .before .before .before .before .before .before .before .before .before) in omega arith
-
-done-requires : tie.Need-done-requires
-done-requires c κs = search needs
-
-same-length : tie.Need-same-length
-same-length c = search needs
 
 returns-3 : tie.Need-returns-3
 unfolding writeChecks saveOf
@@ -115,24 +67,24 @@ pub write-file-spec : {M : Type 1} → statement M
 write-file-spec =
     tie.close
     (tie.spec
-    too-long-requires
-    refuse-requires
+    (λ c κs. search needs)
+    (λ c κs. search needs)
     returns
-    mul-end
-    add-end
-    add-problem-fault
-    problem-fault-requires
+    (λ c. let r = short c in omega arith)
+    (λ c. let r = short c in omega arith)
+    (λ c. let r = short c in omega arith)
+    (λ c κs. search needs)
     returns-2
-    sub-put-records
-    part-put-records-start
-    part-put-records-end
-    put-records-requires
-    sub-put-trailer
-    part-put-trailer-start
-    part-put-trailer-end
-    put-trailer-requires
+    (λ c. let r = room c in omega arith)
+    (λ c. let r = room c in omega arith)
+    (λ c. search needs)
+    (λ c κs. let r = room (c .before) in (r .1, omega arith))
+    (λ c. let r = room (c .before .before .before .before) in omega arith)
+    (λ c. let r = room (c .before .before .before .before) in omega arith)
+    (λ c. search needs)
+    (λ c κs. let r = room (c .before .before .before .before .before) in (r .1, omega arith))
     add-done
     cast-done
-    done-requires
-    same-length
+    (λ c κs. search needs)
+    (λ c. search needs)
     returns-3)

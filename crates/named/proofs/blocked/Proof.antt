@@ -27,36 +27,6 @@ loop-holds : tie.Need-loop-holds Inv-loop μ-loop
 unfolding any least
 loop-holds c = (omega arith, λ q p. no-fact p)
 
-mul-in-way : tie.Need-mul-in-way Inv-loop μ-loop
-mul-in-way c = search needs
-
-shared-slice-read-in-way : tie.Need-shared-slice-read-in-way Inv-loop μ-loop
-shared-slice-read-in-way c = search needs
-
-mul-in-way-2 : tie.Need-mul-in-way-2 Inv-loop μ-loop
-mul-in-way-2 c = search needs
-
-element-copy-out-in-way : tie.Need-element-copy-out-in-way Inv-loop μ-loop
-element-copy-out-in-way c = search needs
-
-in-way-requires : tie.Need-in-way-requires Inv-loop μ-loop
-in-way-requires c κs = search needs
-
-mul-word-if : tie.Need-mul-word-if Inv-loop μ-loop
-mul-word-if c = search needs
-
-element-copy-out-word-if : tie.Need-element-copy-out-word-if Inv-loop μ-loop
-element-copy-out-word-if c = search needs
-
-word-if-requires : tie.Need-word-if-requires Inv-loop μ-loop
-word-if-requires c κs = search needs
-
-add-d : tie.Need-add-d Inv-loop μ-loop
-add-d c = search needs
-
-loop-less : tie.Need-loop-less Inv-loop μ-loop
-loop-less c = search needs
-
 loop-again : tie.Need-loop-again Inv-loop μ-loop
 loop-again c = (omega arith, λ q p. has-or (c .before .before .before .before .before .before .before .loop .w) _ p ∙ ap₂ (λ (x y : Bool). x || y) (c .before .before .before .before .before .before .before .loop .inv .1 q p) (c .word-if .ensures p ∙ blocks-of (c .before .before .before .before .before .before .before .before .before .args .t1) q (c .before .before .before .before .before .before .before .before .before .args .s .now) (c .before .before .before .before .before .before .before .before .before .args .c) p (c .before .before .before .before .before .before .before .before .before .args .from) (c .before .before .before .before .before .before .before .loop .d) (c .before .before .before .in-way .ensures)) ∙ sym (any-more _ (c .before .before .before .before .before .before .before .loop .d)))
 
@@ -70,15 +40,15 @@ blocked-spec =
     Inv-loop
     μ-loop
     loop-holds
-    mul-in-way
-    shared-slice-read-in-way
-    mul-in-way-2
-    element-copy-out-in-way
-    in-way-requires
-    mul-word-if
-    element-copy-out-word-if
-    word-if-requires
-    add-d
-    loop-less
+    (λ c. search needs)
+    (λ c. search needs)
+    (λ c. search needs)
+    (λ c. search needs)
+    (λ c κs. search needs)
+    (λ c. search needs)
+    (λ c. search needs)
+    (λ c κs. search needs)
+    (λ c. search needs)
+    (λ c. search needs)
     loop-again
     returns)

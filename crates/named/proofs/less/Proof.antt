@@ -2,8 +2,5 @@ use Rattle.facts.proofs.Sets.{has-less}
 use Rattle.named.proofs.less.Statement.{statement}
 use Rattle.named.proofs.less.Tie as tie
 
-returns : tie.Need-returns
-returns c = λ p. has-less 64 (c .args .a) (c .args .b) p (c .fits .a .fits) (c .fits .b .fits)
-
 pub less-spec : {M : Type 1} → statement M
-less-spec = tie.close (tie.spec returns)
+less-spec = tie.close (tie.spec (λ c. λ p. has-less 64 (c .args .a) (c .args .b) p (c .fits .a .fits) (c .fits .b .fits)))

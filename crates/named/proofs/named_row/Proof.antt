@@ -22,32 +22,8 @@ Inv-loop l q s c want n start left₀ by₀ a₀ left by a = (a ≤ n) × (lengt
 abbrev μ-loop : tie.MeasureT-loop
 μ-loop l q s c want n start left₀ by₀ a₀ left by a = n - a
 
-start-fits-requires : tie.Need-start-fits-requires Inv-loop μ-loop
-start-fits-requires c κs = search needs
-
-less-requires : tie.Need-less-requires Inv-loop μ-loop
-less-requires c κs = search needs
-
 loop-holds : tie.Need-loop-holds Inv-loop μ-loop
 loop-holds c = (omega arith, refl, left-first (problem (c .before .before .before .args .l) (c .before .before .before .args .q)) (starts (c .before .before .before .args .s .now)) (consumer (c .before .before .before .args .c)) (c .before .before .before .args .want) _ (λ p. c .less .ensures p ∙ ap (λ (x : Bool). has (c .before .before .before .args .want) p && not x) (c .before .start-fits .ensures p)), λ k h. absurd (omega arith))
-
-job-fits-requires : tie.Need-job-fits-requires Inv-loop μ-loop
-job-fits-requires c κs = search needs
-
-mul-by : tie.Need-mul-by Inv-loop μ-loop
-mul-by c = search needs
-
-array-write-by : tie.Need-array-write-by Inv-loop μ-loop
-array-write-by c = omega arith
-
-less-requires-2 : tie.Need-less-requires-2 Inv-loop μ-loop
-less-requires-2 c κs = search needs
-
-add-a : tie.Need-add-a Inv-loop μ-loop
-add-a c = search needs
-
-loop-less : tie.Need-loop-less Inv-loop μ-loop
-loop-less c = search needs
 
 loop-again : tie.Need-loop-again Inv-loop μ-loop
 loop-again c = (omega arith, length-set (c .before .before .before .loop .by) (c .before .before .before .loop .a) _ ∙ c .before .before .before .loop .inv .1, left-more (problem (c .before .before .before .before .before .before .before .args .l) (c .before .before .before .before .before .before .before .args .q)) (starts (c .before .before .before .before .before .before .before .args .s .now)) (consumer (c .before .before .before .before .before .before .before .args .c)) (c .before .before .before .before .before .before .before .args .want) (c .before .before .before .loop .a) (c .before .before .before .loop .left) (c .before .job-fits .result) _ (c .before .before .before .loop .inv .2) (c .before .job-fits .ensures) (c .less2 .ensures), set-more (λ k w. Word (λ p. has (c .before .before .before .before .before .before .before .args .want) p && isJob k (named (problem (c .before .before .before .before .before .before .before .args .l) (c .before .before .before .before .before .before .before .args .q)) (starts (c .before .before .before .before .before .before .before .args .s .now)) p (consumer (c .before .before .before .before .before .before .before .args .c)))) w) (c .before .before .before .loop .by) (c .before .before .before .loop .a) _ 0 (omega arith) (c .before .before .before .loop .inv .3) (taken (problem (c .before .before .before .before .before .before .before .args .l) (c .before .before .before .before .before .before .before .args .q)) (starts (c .before .before .before .before .before .before .before .args .s .now)) (consumer (c .before .before .before .before .before .before .before .args .c)) (c .before .before .before .before .before .before .before .args .want) (c .before .before .before .loop .a) (c .before .before .before .loop .left) (c .before .job-fits .result) _ (omega arith) (c .before .before .before .loop .inv .2) (c .before .job-fits .ensures) (has-and (c .before .before .before .loop .left) (c .before .job-fits .result))))
@@ -61,14 +37,14 @@ named-row-spec =
     (tie.spec
     Inv-loop
     μ-loop
-    start-fits-requires
-    less-requires
+    (λ c κs. search needs)
+    (λ c κs. search needs)
     loop-holds
-    job-fits-requires
-    mul-by
-    array-write-by
-    less-requires-2
-    add-a
-    loop-less
+    (λ c κs. search needs)
+    (λ c. search needs)
+    (λ c. omega arith)
+    (λ c κs. search needs)
+    (λ c. search needs)
+    (λ c. search needs)
     loop-again
     returns)

@@ -5,17 +5,8 @@ use Rattle.named.proofs.Rows.{row-same}
 use Rattle.named.proofs.row_of.Statement.{statement}
 use Rattle.named.proofs.row_of.Tie as tie
 
-holder-of-requires : tie.Need-holder-of-requires
-holder-of-requires c κs = search needs
-
-wanted-requires : tie.Need-wanted-requires
-wanted-requires c κs = search needs
-
-named-row-requires : tie.Need-named-row-requires
-named-row-requires c κs = search needs
-
 returns : tie.Need-returns
 returns c = row-same (problem (c .before .before .before .before .args .l) (c .before .before .before .before .args .q)) (starts (c .before .before .before .before .args .s .now)) _ _ _ _ _ (c .before .before .holder-of .ensures) (c .before .wanted .ensures) (c .named-row .ensures)
 
 pub row-of-spec : {M : Type 1} → statement M
-row-of-spec = tie.close (tie.spec holder-of-requires wanted-requires named-row-requires returns)
+row-of-spec = tie.close (tie.spec (λ c κs. search needs) (λ c κs. search needs) (λ c κs. search needs) returns)

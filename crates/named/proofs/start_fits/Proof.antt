@@ -3,14 +3,8 @@ use Rattle.named.proofs.Blocks.{start-of}
 use Rattle.named.proofs.start_fits.Statement.{statement}
 use Rattle.named.proofs.start_fits.Tie as tie
 
-blocked-requires : tie.Need-blocked-requires
-blocked-requires c κs = search needs
-
-less-requires : tie.Need-less-requires
-less-requires c κs = search needs
-
 returns : tie.Need-returns
 returns c = start-of (c .before .before .before .args .l) (c .before .before .before .args .q) (c .before .before .before .args .s .now) (c .before .before .before .args .c) _ _ (c .before .blocked .ensures) (c .less .ensures)
 
 pub start-fits-spec : {M : Type 1} → statement M
-start-fits-spec = tie.close (tie.spec blocked-requires less-requires returns)
+start-fits-spec = tie.close (tie.spec (λ c κs. search needs) (λ c κs. search needs) returns)

@@ -11,21 +11,9 @@ returns : tie.Need-returns
 unfolding wants
 returns c = simp (eq-eqb _ _ (c .if1 .taken)) (λ p. refl)
 
-mul-if2 : tie.Need-mul-if2
-mul-if2 c = search needs
-
-shared-slice-read-if2 : tie.Need-shared-slice-read-if2
-shared-slice-read-if2 c = search needs
-
 returns-2 : tie.Need-returns-2
 unfolding wants inPlan
 returns-2 c = simp (ne-eqb _ _ (c .before .before .if1 .left), eq-eqb _ _ (c .if2 .taken)) no-fact
-
-mul-result : tie.Need-mul-result
-mul-result c = search needs
-
-element-copy-out-result : tie.Need-element-copy-out-result
-element-copy-out-result c = search needs
 
 returns-3 : tie.Need-returns-3
 unfolding wants inPlan
@@ -34,11 +22,4 @@ returns-3 c = simp (ne-eqb _ _ (c .before .before .before .if1 .left), ne-eqb _ 
 pub wanted-spec : {M : Type 1} → statement M
 wanted-spec =
     tie.close
-    (tie.spec
-    returns
-    mul-if2
-    shared-slice-read-if2
-    returns-2
-    mul-result
-    element-copy-out-result
-    returns-3)
+    (tie.spec returns (λ c. search needs) (λ c. search needs) returns-2 (λ c. search needs) (λ c. search needs) returns-3)

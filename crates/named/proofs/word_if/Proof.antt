@@ -5,14 +5,11 @@ use Rattle.named.proofs.Tests.{no-fact}
 use Rattle.named.proofs.word_if.Statement.{statement}
 use Rattle.named.proofs.word_if.Tie as tie
 
-returns : tie.Need-returns
-returns c = rw (c .before .if1 .taken, c .if2 .taken) (λ p. sym (and-true _))
-
 returns-2 : tie.Need-returns-2
 returns-2 c = rw (c .before .if1 .taken, c .if2 .left) (λ p. no-fact p ∙ sym (and-false (has (c .before .before .args .w) p)))
 
-returns-3 : tie.Need-returns-3
-returns-3 c = rw (c .if1 .left) (λ p. no-fact p ∙ sym (and-false (has (c .before .args .w) p)))
-
 pub word-if-spec : {M : Type 1} → statement M
-word-if-spec = tie.close (tie.spec returns returns-2 returns-3)
+word-if-spec = tie.close (tie.spec
+    (λ c. rw (c .before .if1 .taken, c .if2 .taken) (λ p. sym (and-true _)))
+    returns-2
+    (λ c. rw (c .if1 .left) (λ p. no-fact p ∙ sym (and-false (has (c .before .args .w) p)))))

@@ -7,41 +7,11 @@ use borrow.Author.Needs.{needs}
 use Rattle.page.proofs.page.Statement.{statement}
 use Rattle.page.proofs.page.Tie as tie
 
-refuse-requires : tie.Need-refuse-requires
-refuse-requires c κs = search needs
-
 returns : tie.Need-returns
 returns c = pages-short (c .before .before .before .before .args .file .now) (c .before .before .before .before .args .out .now) (c .before .if1 .taken) (c .refuse .ensures)
 
-read-file-requires : tie.Need-read-file-requires
-read-file-requires c κs = search needs
-
-put-refused-requires : tie.Need-put-refused-requires
-put-refused-requires c κs = search needs
-
-cast-done : tie.Need-cast-done
-cast-done c = search needs
-
-done-requires : tie.Need-done-requires
-done-requires c κs = search needs
-
-same-length : tie.Need-same-length
-same-length c = search needs
-
 returns-2 : tie.Need-returns-2
 returns-2 c = let a = c .before .before .before .before .before .before .before .before .before .before .before .before .args in pages-no (a .file .now) (a .out .now) (omega arith) (c .done .ensures) (λ z. c .before .before .before .before .before .if2 .taken (ap (λ (x : Read). x .answer .number) (c .before .before .before .before .before .before .before .before .read-file .ensures) ∙ z)) (rw (c .before .before .before .before .before .before .before .before .read-file .ensures) at (lays-fit {n = 8192} (c .before .before .before .put-refused .ensures) (omega (arith, c .before .before .before .put-refused .ensures .fits))))
-
-put-table-requires : tie.Need-put-table-requires
-put-table-requires c κs = search needs
-
-cast-done-2 : tie.Need-cast-done-2
-cast-done-2 c = search needs
-
-done-requires-2 : tie.Need-done-requires-2
-done-requires-2 c κs = search needs
-
-same-length-2 : tie.Need-same-length-2
-same-length-2 c = search needs
 
 returns-3 : tie.Need-returns-3
 returns-3 c = let a = c .before .before .before .before .before .before .before .before .before .before .before .before .args in pages-table (a .file .now) (a .out .now) (omega arith) (c .done2 .ensures) (sym (ap (λ (x : Read). x .answer .number) (c .before .before .before .before .before .before .before .before .read-file .ensures)) ∙ c .before .before .before .before .before .if2 .left) (rw (c .before .before .before .before .before .before .before .before .read-file .ensures) at (c .before .before .before .put-table .ensures))
@@ -50,16 +20,16 @@ pub page-spec : {M : Type 1} → statement M
 page-spec =
     tie.close
     (tie.spec
-    refuse-requires
+    (λ c κs. search needs)
     returns
-    read-file-requires
-    put-refused-requires
-    cast-done
-    done-requires
-    same-length
+    (λ c κs. search needs)
+    (λ c κs. search needs)
+    (λ c. search needs)
+    (λ c κs. search needs)
+    (λ c. search needs)
     returns-2
-    put-table-requires
-    cast-done-2
-    done-requires-2
-    same-length-2
+    (λ c κs. search needs)
+    (λ c. search needs)
+    (λ c κs. search needs)
+    (λ c. search needs)
     returns-3)

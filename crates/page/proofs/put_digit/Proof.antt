@@ -7,21 +7,6 @@ use Rattle.page.proofs.put_digit.Tie as tie
 returns : tie.Need-returns
 returns c = let a = c .before .before .args in rw (digit-none (a .n) (a .unit) (c .if1 .taken)) (lays-fit (lays-none (a .at) (a .out .now)) (omega arith))
 
-div-put-letter : tie.Need-div-put-letter
-div-put-letter c = search needs
-
-cast-put-letter : tie.Need-cast-put-letter
-cast-put-letter c = search needs
-
-add-put-letter : tie.Need-add-put-letter
-add-put-letter c = search needs
-
-put-letter-requires : tie.Need-put-letter-requires
-put-letter-requires c κs = search needs
-
-same-length : tie.Need-same-length
-same-length c = search needs
-
 returns-2 : tie.Need-returns-2
 returns-2 c = let a = c .before .before .before .before .before .before .args in rw (digit-some (a .n) (a .unit) (omega arith)) (c .before .before .put-letter .ensures)
 
@@ -30,9 +15,9 @@ put-digit-spec =
     tie.close
     (tie.spec
     returns
-    div-put-letter
-    cast-put-letter
-    add-put-letter
-    put-letter-requires
-    same-length
+    (λ c. search needs)
+    (λ c. search needs)
+    (λ c. search needs)
+    (λ c κs. search needs)
+    (λ c. search needs)
     returns-2)

@@ -19,27 +19,12 @@ Inv-loop l q s bound at out₀ n next₀ t₀ out next t = (t ≤ n) × (length 
 abbrev μ-loop : tie.MeasureT-loop
 μ-loop l q s bound at out₀ n next₀ t₀ out next t = n - t
 
-add-n : tie.Need-add-n Inv-loop μ-loop
-add-n c = search needs
-
 loop-holds : tie.Need-loop-holds Inv-loop μ-loop
 unfolding inOrder
 loop-holds c = (omega arith, refl, lays-fit (lays-none _ _) (omega arith))
 
-put-starts-requires : tie.Need-put-starts-requires Inv-loop μ-loop
-put-starts-requires c κs = search needs
-
-add-t : tie.Need-add-t Inv-loop μ-loop
-add-t c = search needs
-
-loop-less : tie.Need-loop-less Inv-loop μ-loop
-loop-less c = search needs
-
 loop-again : tie.Need-loop-again Inv-loop μ-loop
 loop-again c = let a = c .before .before .before .before .before .before .before .before .args in let P = problem (a .l) (a .q) in (omega arith, c .before .out .given ∙ c .before .before .before .before .before .loop .inv .1, lays-fit (lays-next (jobsAt P (starts (a .s .now))) (c .before .before .before .before .before .loop .t) (search needs) (c .before .before .before .before .before .loop .inv .2) (c .before .before .put-starts .ensures)) (jobs-fit P (starts (a .s .now)) (c .before .before .before .before .before .loop .t + 1)))
-
-same-length : tie.Need-same-length Inv-loop μ-loop
-same-length c = c .before .loop .inv .1
 
 returns : tie.Need-returns Inv-loop μ-loop
 returns c = let e : c .before .loop .t ≡ c .before .before .before .before .args .bound + 1 = omega arith in rw e at (c .before .loop .inv .2)
@@ -50,11 +35,11 @@ put-jobs-spec =
     (tie.spec
     Inv-loop
     μ-loop
-    add-n
+    (λ c. search needs)
     loop-holds
-    put-starts-requires
-    add-t
-    loop-less
+    (λ c κs. search needs)
+    (λ c. search needs)
+    (λ c. search needs)
     loop-again
-    same-length
+    (λ c. c .before .loop .inv .1)
     returns)

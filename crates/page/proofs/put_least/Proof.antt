@@ -3,22 +3,10 @@ use borrow.Author.Needs.{needs}
 use Rattle.page.proofs.put_least.Statement.{statement}
 use Rattle.page.proofs.put_least.Tie as tie
 
-slice-aggregate-put-word : tie.Need-slice-aggregate-put-word
-slice-aggregate-put-word c = search needs
-
-put-word-requires : tie.Need-put-word-requires
-put-word-requires c κs = search needs
-
-put-then-requires : tie.Need-put-then-requires
-put-then-requires c κs = search needs
-
-same-length : tie.Need-same-length
-same-length c = search needs
-
 returns : tie.Need-returns
 returns c = lays-then (search needs) (c .before .before .before .before .before .before .put-word .ensures) (c .before .before .put-then .ensures)
 
 pub put-least-spec : {M : Type 1} → statement M
 put-least-spec =
     tie.close
-    (tie.spec slice-aggregate-put-word put-word-requires put-then-requires same-length returns)
+    (tie.spec (λ c. search needs) (λ c κs. search needs) (λ c κs. search needs) (λ c. search needs) returns)

@@ -20,35 +20,8 @@ loop-holds : tie.Need-loop-holds Inv-loop μ-loop
 unfolding inOrder
 loop-holds c = (omega arith, refl, lays-fit (lays-none _ _) (omega arith))
 
-mul-put-pair : tie.Need-mul-put-pair Inv-loop μ-loop
-mul-put-pair c = search needs
-
-shared-slice-read-put-pair : tie.Need-shared-slice-read-put-pair Inv-loop μ-loop
-shared-slice-read-put-pair c = search needs
-
-mul-put-pair-2 : tie.Need-mul-put-pair-2 Inv-loop μ-loop
-mul-put-pair-2 c = search needs
-
-add-put-pair : tie.Need-add-put-pair Inv-loop μ-loop
-add-put-pair c = search needs
-
-shared-slice-read-put-pair-2 : tie.Need-shared-slice-read-put-pair-2 Inv-loop μ-loop
-shared-slice-read-put-pair-2 c = search needs
-
-put-pair-requires : tie.Need-put-pair-requires Inv-loop μ-loop
-put-pair-requires c κs = search needs
-
-add-i : tie.Need-add-i Inv-loop μ-loop
-add-i c = search needs
-
-loop-less : tie.Need-loop-less Inv-loop μ-loop
-loop-less c = search needs
-
 loop-again : tie.Need-loop-again Inv-loop μ-loop
 loop-again c = let a = c .before .before .before .before .before .before .before .before .before .before .args in (omega arith, c .before .out .given ∙ c .before .before .before .before .before .before .before .loop .inv .1, lays-line (λ k. pairLine (getD (a .pairs .now) (2 * k) 0) (getD (a .pairs .now) (2 * k + 1) 0)) 19 (c .before .before .before .before .before .before .before .loop .i) (search needs) (c .before .before .before .before .before .before .before .loop .inv .2) (c .before .before .put-pair .ensures))
-
-same-length : tie.Need-same-length Inv-loop μ-loop
-same-length c = c .before .loop .inv .1
 
 returns : tie.Need-returns Inv-loop μ-loop
 returns c = let e : c .before .loop .i ≡ c .before .before .before .before .args .n = omega arith in rw e at (c .before .loop .inv .2)
@@ -60,14 +33,14 @@ put-pairs-spec =
     Inv-loop
     μ-loop
     loop-holds
-    mul-put-pair
-    shared-slice-read-put-pair
-    mul-put-pair-2
-    add-put-pair
-    shared-slice-read-put-pair-2
-    put-pair-requires
-    add-i
-    loop-less
+    (λ c. search needs)
+    (λ c. search needs)
+    (λ c. search needs)
+    (λ c. search needs)
+    (λ c. search needs)
+    (λ c κs. search needs)
+    (λ c. search needs)
+    (λ c. search needs)
     loop-again
-    same-length
+    (λ c. c .before .loop .inv .1)
     returns)

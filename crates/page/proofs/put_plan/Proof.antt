@@ -12,23 +12,11 @@ use borrow.Author.Needs.{needs}
 use Rattle.page.proofs.put_plan.Statement.{statement}
 use Rattle.page.proofs.put_plan.Tie as tie
 
-slice-aggregate-pairs : tie.Need-slice-aggregate-pairs
-slice-aggregate-pairs c = search needs
-
 put-pairs-requires : tie.Need-put-pairs-requires
 put-pairs-requires c κs = let a = c .before .before .before .before .args in let h = pairs-room (problem (a .l) (a .q)) (starts (a .s .now)) (c .before .before .before .before .pre .1) (c .before .before .before .before .pre .0 .0) in (c .before .before .before .before .pre .0, search needs)
 
-put-least-requires : tie.Need-put-least-requires
-put-least-requires c κs = search needs
-
-put-jobs-requires : tie.Need-put-jobs-requires
-put-jobs-requires c κs = search needs
-
 put-pairs-requires-2 : tie.Need-put-pairs-requires-2
 put-pairs-requires-2 c κs = let a = c .before .before .before .before .before .before .before .before .before .before .before .before .before .before .before .before .before .args in let h = pairs-room (problem (a .l) (a .q)) (starts (a .s .now)) (c .before .before .before .before .before .before .before .before .before .before .before .before .before .before .before .before .before .pre .1) (c .before .before .before .before .before .before .before .before .before .before .before .before .before .before .before .before .before .pre .0 .0) in (search needs, omega (arith, h, c .before .before .before .before .before .before .before .before .before .before .before .before .put-pairs .ensures .next, c .before .before .before .before .put-jobs .ensures .next, c .before .before .before .before .put-jobs .ensures .fits, c .before .before .before .before .before .before .before .before .put-least .ensures .next, c .before .before .before .before .before .before .before .before .put-least .ensures .fits))
-
-same-length : tie.Need-same-length
-same-length c = search needs
 
 returns : tie.Need-returns
 unfolding planText filled
@@ -45,10 +33,10 @@ pub put-plan-spec : {M : Type 1} → statement M
 put-plan-spec =
     tie.close
     (tie.spec
-    slice-aggregate-pairs
+    (λ c. search needs)
     put-pairs-requires
-    put-least-requires
-    put-jobs-requires
+    (λ c κs. search needs)
+    (λ c κs. search needs)
     put-pairs-requires-2
-    same-length
+    (λ c. search needs)
     returns)

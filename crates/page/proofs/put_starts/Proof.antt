@@ -22,20 +22,8 @@ loop-holds : tie.Need-loop-holds Inv-loop μ-loop
 unfolding inOrder
 loop-holds c = (omega arith, refl, lays-fit (lays-none _ _) (omega arith))
 
-put-start-requires : tie.Need-put-start-requires Inv-loop μ-loop
-put-start-requires c κs = search needs
-
-add-j : tie.Need-add-j Inv-loop μ-loop
-add-j c = search needs
-
-loop-less : tie.Need-loop-less Inv-loop μ-loop
-loop-less c = search needs
-
 loop-again : tie.Need-loop-again Inv-loop μ-loop
 loop-again c = let a = c .before .before .before .before .before .before .before .before .args in (omega arith, c .before .out .given ∙ c .before .before .before .before .before .loop .inv .1, lays-line (λ i. textIf (eqb (getD (a .s .now) i 0) (a .t)) (jobLine (getD (a .s .now) i 0) (getD (a .s .now) i 0 + getD (a .l .durations) i 0) i)) 18 (c .before .before .before .before .before .loop .j) (search needs) (c .before .before .before .before .before .loop .inv .2) (c .before .before .put-start .ensures))
-
-same-length : tie.Need-same-length Inv-loop μ-loop
-same-length c = c .before .loop .inv .1
 
 returns : tie.Need-returns Inv-loop μ-loop
 returns c = let e : c .before .loop .j ≡ c .before .before .before .before .args .q .jobs = omega arith in rw e at (c .before .loop .inv .2)
@@ -47,9 +35,9 @@ put-starts-spec =
     Inv-loop
     μ-loop
     loop-holds
-    put-start-requires
-    add-j
-    loop-less
+    (λ c κs. search needs)
+    (λ c. search needs)
+    (λ c. search needs)
     loop-again
-    same-length
+    (λ c. c .before .loop .inv .1)
     returns)

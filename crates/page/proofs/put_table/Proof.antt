@@ -5,18 +5,6 @@ use borrow.Author.Needs.{needs}
 use Rattle.page.proofs.put_table.Statement.{statement}
 use Rattle.page.proofs.put_table.Tie as tie
 
-slice-aggregate-starts : tie.Need-slice-aggregate-starts
-slice-aggregate-starts c = search needs
-
-least-bound-requires : tie.Need-least-bound-requires
-least-bound-requires c κs = search needs
-
-put-refused-requires : tie.Need-put-refused-requires
-put-refused-requires c κs = search needs
-
-same-length : tie.Need-same-length
-same-length c = search needs
-
 returns : tie.Need-returns
 returns c = let a = c .before .before .before .before .before .before .before .before .before .before .before .before .before .args in record { text = _; is = shows-no (a .l) (a .q) _ _ (c .before .before .before .before .before .before .before .before .before .least-bound .ensures) (c .before .before .before .before .before .if1 .taken); lays = lays-fit (c .before .before .put-refused .ensures) (omega (arith, c .before .before .put-refused .ensures .fits)) }
 
@@ -25,9 +13,6 @@ put-plan-requires c κs =
     let a = c .before .before .before .before .before .before .before .before .before .before .args in
     let h = ready (a .l) (a .q) _ _ _ (c .before .before .before .before .before .starts .given) (c .before .before .before .before .before .before .least-bound .ensures) (c .before .before .if1 .left) in
     (h .0, h .1, search needs)
-
-same-length-2 : tie.Need-same-length-2
-same-length-2 c = search needs
 
 returns-2 : tie.Need-returns-2
 returns-2 c =
@@ -38,11 +23,11 @@ pub put-table-spec : {M : Type 1} → statement M
 put-table-spec =
     tie.close
     (tie.spec
-    slice-aggregate-starts
-    least-bound-requires
-    put-refused-requires
-    same-length
+    (λ c. search needs)
+    (λ c κs. search needs)
+    (λ c κs. search needs)
+    (λ c. search needs)
     returns
     put-plan-requires
-    same-length-2
+    (λ c. search needs)
     returns-2)

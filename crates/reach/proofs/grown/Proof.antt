@@ -12,27 +12,6 @@ Inv-loop a w s t₀ p₀ t p = (p ≤ 64) × Grown (s .rows) a w p (t .rows)
 abbrev μ-loop : tie.MeasureT-loop
 μ-loop a w s t₀ p₀ t p = 64 - p
 
-loop-holds : tie.Need-loop-holds Inv-loop μ-loop
-loop-holds c = (omega arith, grown-none _ _ _ (search needs))
-
-mul-grown-row : tie.Need-mul-grown-row Inv-loop μ-loop
-mul-grown-row c = search needs
-
-element-copy-out-grown-row : tie.Need-element-copy-out-grown-row Inv-loop μ-loop
-element-copy-out-grown-row c = search needs
-
-grown-row-requires : tie.Need-grown-row-requires Inv-loop μ-loop
-grown-row-requires c κs = search needs
-
-with-row-requires : tie.Need-with-row-requires Inv-loop μ-loop
-with-row-requires c κs = search needs
-
-add-p : tie.Need-add-p Inv-loop μ-loop
-add-p c = search needs
-
-loop-less : tie.Need-loop-less Inv-loop μ-loop
-loop-less c = search needs
-
 loop-again : tie.Need-loop-again Inv-loop μ-loop
 loop-again c = (omega arith, grown-more _ _ _ _ _ _ _ (omega arith) (c .before .before .before .before .loop .inv .1) (c .before .grown-row .ensures) (c .with-row .ensures))
 
@@ -45,12 +24,12 @@ grown-spec =
     (tie.spec
     Inv-loop
     μ-loop
-    loop-holds
-    mul-grown-row
-    element-copy-out-grown-row
-    grown-row-requires
-    with-row-requires
-    add-p
-    loop-less
+    (λ c. (omega arith, grown-none _ _ _ (search needs)))
+    (λ c. search needs)
+    (λ c. search needs)
+    (λ c κs. search needs)
+    (λ c κs. search needs)
+    (λ c. search needs)
+    (λ c. search needs)
     loop-again
     returns)

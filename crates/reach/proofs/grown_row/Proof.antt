@@ -5,21 +5,6 @@ use Rattle.facts.specs.Facts.{has}
 use Rattle.reach.proofs.grown_row.Statement.{statement}
 use Rattle.reach.proofs.grown_row.Tie as tie
 
-union-requires : tie.Need-union-requires
-union-requires c κs = search needs
-
-has-requires : tie.Need-has-requires
-has-requires c κs = search needs
-
-union-if-requires : tie.Need-union-if-requires
-union-if-requires c κs = search needs
-
-has-requires-2 : tie.Need-has-requires-2
-has-requires-2 c κs = search needs
-
-union-if-requires-2 : tie.Need-union-if-requires-2
-union-if-requires-2 c κs = search needs
-
 returns : tie.Need-returns
 returns c = λ q.
     let a = c .before .before .before .before .before .args in
@@ -32,9 +17,9 @@ pub grown-row-spec : {M : Type 1} → statement M
 grown-row-spec =
     tie.close
     (tie.spec
-    union-requires
-    has-requires
-    union-if-requires
-    has-requires-2
-    union-if-requires-2
+    (λ c κs. search needs)
+    (λ c κs. search needs)
+    (λ c κs. search needs)
+    (λ c κs. search needs)
+    (λ c κs. search needs)
     returns)

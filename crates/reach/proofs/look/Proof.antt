@@ -4,20 +4,13 @@ use borrow.Author.Needs.{needs}
 use Rattle.reach.proofs.look.Statement.{statement}
 use Rattle.reach.proofs.look.Tie as tie
 
-fits-requires : tie.Need-fits-requires
-fits-requires c κs = search needs
-
-returns : tie.Need-returns
-returns c = looked-not _ _ _ _ (search needs) (c .before .fits2 .ensures .nay (not-true _ (c .if1 .taken)))
-
-beside-requires : tie.Need-beside-requires
-beside-requires c κs = search needs
-
-grown-requires : tie.Need-grown-requires
-grown-requires c κs = search needs
-
 returns-2 : tie.Need-returns-2
 returns-2 c = looked-fit _ _ _ _ (search needs) _ _ (c .before .before .before .fits2 .ensures .yea (not-false _ (c .before .before .if1 .left))) (c .before .beside .ensures) (c .grown .ensures)
 
 pub look-spec : {M : Type 1} → statement M
-look-spec = tie.close (tie.spec fits-requires returns beside-requires grown-requires returns-2)
+look-spec = tie.close (tie.spec
+    (λ c κs. search needs)
+    (λ c. looked-not _ _ _ _ (search needs) (c .before .fits2 .ensures .nay (not-true _ (c .if1 .taken))))
+    (λ c κs. search needs)
+    (λ c κs. search needs)
+    returns-2)

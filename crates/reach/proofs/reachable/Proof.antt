@@ -19,18 +19,6 @@ Inv-loop l q s₀ s = Kept (problem l q) (s .rows)
 abbrev μ-loop : tie.MeasureT-loop
 μ-loop l q s₀ s = missing (s .rows)
 
-opened-requires : tie.Need-opened-requires Inv-loop μ-loop
-opened-requires c κs = search needs
-
-loop-holds : tie.Need-loop-holds Inv-loop μ-loop
-loop-holds c = kept-first (problem (c .before .args .l) (c .before .args .q)) (c .before .pre .1) _ (c .opened .ensures)
-
-round-requires : tie.Need-round-requires Inv-loop μ-loop
-round-requires c κs = search needs
-
-within-requires : tie.Need-within-requires Inv-loop μ-loop
-within-requires c κs = search needs
-
 returns : tie.Need-returns Inv-loop μ-loop
 returns c = exact (problem (c .before .before .before .before .before .args .l) (c .before .before .before .before .before .args .q)) (c .before .before .before .before .before .pre .1) _ _ (c .before .before .before .loop .inv) (c .before .before .round .ensures _ (whole (c .before .before .before .before .before .args .l) (c .before .before .before .before .before .args .q)) (c .before .before .before .before .before .pre .1) (omega arith)) (c .before .within .ensures .yea (c .if1 .taken))
 
@@ -46,10 +34,10 @@ reachable-spec =
     (tie.spec
     Inv-loop
     μ-loop
-    opened-requires
-    loop-holds
-    round-requires
-    within-requires
+    (λ c κs. search needs)
+    (λ c. kept-first (problem (c .before .args .l) (c .before .args .q)) (c .before .pre .1) _ (c .opened .ensures))
+    (λ c κs. search needs)
+    (λ c κs. search needs)
     returns
     loop-less
     loop-again)

@@ -2,8 +2,5 @@ use Rattle.facts.proofs.Sets.{has-or}
 use Rattle.reach.proofs.union.Statement.{statement}
 use Rattle.reach.proofs.union.Tie as tie
 
-returns : tie.Need-returns
-returns c = λ p. has-or (c .args .a) (c .args .b) p
-
 pub union-spec : {M : Type 1} → statement M
-union-spec = tie.close (tie.spec returns)
+union-spec = tie.close (tie.spec (λ c. λ p. has-or (c .args .a) (c .args .b) p))

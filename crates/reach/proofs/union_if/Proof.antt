@@ -5,14 +5,11 @@ use Rattle.reach.proofs.Laws.{if-so, if-not}
 use Rattle.reach.proofs.union_if.Statement.{statement}
 use Rattle.reach.proofs.union_if.Tie as tie
 
-union-requires : tie.Need-union-requires
-union-requires c κs = search needs
-
 returns : tie.Need-returns
 returns c = λ p. c .union .ensures p ∙ if-so (has (c .before .before .args .a) p) (has (c .before .before .args .b) p) (c .before .if1 .taken)
 
-returns-2 : tie.Need-returns-2
-returns-2 c = λ p. if-not (has (c .before .args .a) p) (has (c .before .args .b) p) (c .if1 .left)
-
 pub union-if-spec : {M : Type 1} → statement M
-union-if-spec = tie.close (tie.spec union-requires returns returns-2)
+union-if-spec = tie.close (tie.spec
+    (λ c κs. search needs)
+    returns
+    (λ c. λ p. if-not (has (c .before .args .a) p) (has (c .before .args .b) p) (c .if1 .left)))

@@ -11,9 +11,6 @@ use Rattle.readings.proofs.bad.Tie as tie
 tested : (c : tie.Start) → c .args .level ≡ toZ w16 (ofZ w16 (c .args .level))
 tested c = sym (toZ-ofZ w16 (c .args .level) (c .fits .level))
 
-returns : tie.Need-returns
-returns c = rw (lt-ltb 1 (c .before .args .channel) (c .if1 .taken))
-
 returns-2 : tie.Need-returns-2
 returns-2 c =
     let start = c .before .before in
@@ -30,4 +27,4 @@ returns-4 c =
     rw (le-ltb 1 (start .args .channel) (c .before .before .if1 .left), tested start, c .before .if2 .left, c .if3 .left)
 
 pub bad-spec : {M : Type 1} → statement M
-bad-spec = tie.close (tie.spec returns returns-2 returns-3 returns-4)
+bad-spec = tie.close (tie.spec (λ c. rw (lt-ltb 1 (c .before .args .channel) (c .if1 .taken))) returns-2 returns-3 returns-4)

@@ -14,15 +14,6 @@ use Rattle.readings.proofs.by_marks.Tie as tie
 abbrev marks : tie.Start → Marks
 marks c = listed (now (c .args .channels)) (now (c .args .levels)) (now (c .args .facts)) (c .args .count)
 
-first-bad-requires : tie.Need-first-bad-requires
-first-bad-requires c κs = search needs
-
-cast-refused : tie.Need-cast-refused
-cast-refused c = search needs
-
-refused-requires : tie.Need-refused-requires
-refused-requires c κs = search needs
-
 returns : tie.Need-returns
 returns c =
     let start = c .before .before .before .before .before in
@@ -34,9 +25,6 @@ with-marked-requires c κs = (omega arith, facts-below (marks (c .before .before
 without-missed-requires : tie.Need-without-missed-requires
 without-missed-requires c κs = (omega arith, facts-below (marks (c .before .before .before .before .before)) _ (c .before .before .first-bad .ensures) (c .before .if1 .left))
 
-done-requires : tie.Need-done-requires
-done-requires c κs = search needs
-
 returns-2 : tie.Need-returns-2
 returns-2 c =
     let cleared = c .before .without-missed in
@@ -47,4 +35,12 @@ returns-2 c =
     c .done .ensures ∙ none-bad (marks start) _ (c .before .before .before .before .first-bad .ensures) (a .temperature) (a .humidity) (a .given) (cleared .result) (c .before .before .before .if1 .left) (cleared .ok) opens
 
 pub by-marks-spec : {M : Type 1} → statement M
-by-marks-spec = tie.close (tie.spec first-bad-requires cast-refused refused-requires returns with-marked-requires without-missed-requires done-requires returns-2)
+by-marks-spec = tie.close (tie.spec
+    (λ c κs. search needs)
+    (λ c. search needs)
+    (λ c κs. search needs)
+    returns
+    with-marked-requires
+    without-missed-requires
+    (λ c κs. search needs)
+    returns-2)

@@ -10,12 +10,6 @@ use Rattle.readings.specs.Marks.{reached}
 use Rattle.readings.proofs.clear_if_missed.Statement.{statement}
 use Rattle.readings.proofs.clear_if_missed.Tie as tie
 
-on-channel-requires : tie.Need-on-channel-requires
-on-channel-requires c κs = search needs
-
-reached-requires : tie.Need-reached-requires
-reached-requires c κs = search needs
-
 -- what the test of the mark says
 test-is : (c : tie.After-reached) → c .reached .result ≡ reached (c .before .before .before .args .temperature) (c .before .before .before .args .humidity) (c .before .before .before .args .k)
 test-is c =
@@ -32,14 +26,8 @@ kept a false = sym (and-true a)
 returns : tie.Need-returns
 returns c p = rw (sym (test-is (c .before)), c .if1 .taken) (kept (has _ p) (eqb p _))
 
-cast-without : tie.Need-cast-without
-cast-without c = search needs
-
-without-requires : tie.Need-without-requires
-without-requires c κs = search needs
-
 returns-2 : tie.Need-returns-2
 returns-2 c p = c .without .ensures p ∙ rw (sym (test-is (c .before .before .before)), c .before .before .if1 .left, and-true)
 
 pub clear-if-missed-spec : {M : Type 1} → statement M
-clear-if-missed-spec = tie.close (tie.spec on-channel-requires reached-requires returns cast-without without-requires returns-2)
+clear-if-missed-spec = tie.close (tie.spec (λ c κs. search needs) (λ c κs. search needs) returns (λ c. search needs) (λ c κs. search needs) returns-2)

@@ -20,15 +20,6 @@ Inv-loop channels levels facts count i₀ i = (i ≤ count) × ((k : ℕ) → k 
 abbrev μ-loop : tie.MeasureT-loop
 μ-loop channels levels facts count i₀ i = count - i
 
-loop-holds : tie.Need-loop-holds Inv-loop μ-loop
-loop-holds c = (search needs, λ k l. absurd (omega arith))
-
-mark-at-requires : tie.Need-mark-at-requires Inv-loop μ-loop
-mark-at-requires c κs = omega arith
-
-bad-requires : tie.Need-bad-requires Inv-loop μ-loop
-bad-requires c κs = search needs
-
 -- what the test of mark i says
 test-is : (c : tie.After-bad Inv-loop μ-loop) → let a = c .before .before .before .before .before .before .before .args in c .bad .result ≡ bad (markAt (now (a .channels)) (now (a .levels)) (now (a .facts)) (c .before .before .before .before .loop .i))
 test-is c =
@@ -38,17 +29,18 @@ test-is c =
 returns : tie.Need-returns Inv-loop μ-loop
 returns c = found _ _ _ (omega arith) (test-yes (test-is (c .before)) (c .if1 .taken)) (c .before .before .before .before .before .loop .inv .1)
 
-add-i : tie.Need-add-i Inv-loop μ-loop
-add-i c = search needs
-
-loop-less : tie.Need-loop-less Inv-loop μ-loop
-loop-less c = search needs
-
 loop-again : tie.Need-loop-again Inv-loop μ-loop
 loop-again c = (search needs, below-more _ _ (c .before .before .before .before .before .loop .inv .1) (test-no (test-is (c .before)) (c .if1 .left)))
 
-returns-2 : tie.Need-returns-2 Inv-loop μ-loop
-returns-2 c = not-found _ _ _ (omega arith) (c .before .loop .inv .1)
-
 pub first-bad-spec : {M : Type 1} → statement M
-first-bad-spec = tie.close (tie.spec Inv-loop μ-loop loop-holds mark-at-requires bad-requires returns add-i loop-less loop-again returns-2)
+first-bad-spec = tie.close (tie.spec
+    Inv-loop
+    μ-loop
+    (λ c. (search needs, λ k l. absurd (omega arith)))
+    (λ c κs. omega arith)
+    (λ c κs. search needs)
+    returns
+    (λ c. search needs)
+    (λ c. search needs)
+    loop-again
+    (λ c. not-found _ _ _ (omega arith) (c .before .loop .inv .1)))

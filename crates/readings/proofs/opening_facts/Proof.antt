@@ -48,21 +48,9 @@ temperature-in c = tested (from2 c .args .reading .temperature) (c .before .befo
 humidity-in : (c : tie.Else3) → inRange (from3 c .args .reading .humidity) ≡ true
 humidity-in c = tested (from3 c .args .reading .humidity) (c .before .before .measure2 .ensures) (not-false _ (c .if3 .left))
 
-short-requires : tie.Need-short-requires
-short-requires c κs = search needs
-
-refused-requires : tie.Need-refused-requires
-refused-requires c κs = search needs
-
 returns : tie.Need-returns
 unfolding openingFacts
 returns c = c .refused .ensures ∙ rw (sym (c .before .before .short .ensures) ∙ c .before .if1 .taken)
-
-measure-requires : tie.Need-measure-requires
-measure-requires c κs = search needs
-
-refused-requires-2 : tie.Need-refused-requires-2
-refused-requires-2 c κs = search needs
 
 returns-2 : tie.Need-returns-2
 unfolding openingFacts
@@ -70,21 +58,12 @@ returns-2 c =
     let then = c .before in
     c .refused2 .ensures ∙ rw (long (then .before .before .before), tested (from1 (then .before .before .before) .args .reading .temperature) (then .before .before .measure .ensures) (not-true _ (then .if2 .taken)))
 
-measure-requires-2 : tie.Need-measure-requires-2
-measure-requires-2 c κs = search needs
-
-refused-requires-3 : tie.Need-refused-requires-3
-refused-requires-3 c κs = search needs
-
 returns-3 : tie.Need-returns-3
 unfolding openingFacts
 returns-3 c =
     let then = c .before in
     let else2 = then .before .before .before in
     c .refused3 .ensures ∙ rw (long (else2 .before .before .before), temperature-in else2, tested (from2 else2 .args .reading .humidity) (then .before .before .measure2 .ensures) (not-true _ (then .if3 .taken)))
-
-refused-requires-4 : tie.Need-refused-requires-4
-refused-requires-4 c κs = search needs
 
 returns-4 : tie.Need-returns-4
 unfolding openingFacts
@@ -111,16 +90,16 @@ pub opening-facts-spec : {M : Type 1} → statement M
 opening-facts-spec =
     tie.close
     (tie.spec
-    short-requires
-    refused-requires
+    (λ c κs. search needs)
+    (λ c κs. search needs)
     returns
-    measure-requires
-    refused-requires-2
+    (λ c κs. search needs)
+    (λ c κs. search needs)
     returns-2
-    measure-requires-2
-    refused-requires-3
+    (λ c κs. search needs)
+    (λ c κs. search needs)
     returns-3
-    refused-requires-4
+    (λ c κs. search needs)
     returns-4
     by-marks-requires
     returns-5)

@@ -6,8 +6,5 @@ use mir.ValLaws.{toZ-ofZ}
 use Rattle.readings.proofs.reached.Statement.{statement}
 use Rattle.readings.proofs.reached.Tie as tie
 
-returns : tie.Need-returns
-returns c = ap₂ leZ (toZ-ofZ w16 (c .args .level) (c .fits .level)) (toZ-ofZ w16 (c .args .tenths) (c .fits .tenths))
-
 pub reached-spec : {M : Type 1} → statement M
-reached-spec = tie.close (tie.spec returns)
+reached-spec = tie.close (tie.spec (λ c. ap₂ leZ (toZ-ofZ w16 (c .args .level) (c .fits .level)) (toZ-ofZ w16 (c .args .tenths) (c .fits .tenths))))

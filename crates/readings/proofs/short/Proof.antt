@@ -20,14 +20,8 @@ one-long a b n h = go (decLe n b)
     go (yes l) = le-ltb b n l ∙ sym (le-ltb (min a b) n (omega arith))
     go (no l) = lt-ltb b n (lt-of-not-le l) ∙ sym (lt-ltb (min a b) n (omega (arith, lt-of-not-le l)))
 
-returns : tie.Need-returns
-returns c = one-short _ _ _ (c .if1 .taken)
-
-returns-2 : tie.Need-returns-2
-returns-2 c = one-short _ _ _ (c .if2 .taken) ∙ one-long _ _ _ (c .before .if1 .left)
-
-returns-3 : tie.Need-returns-3
-returns-3 c = one-long _ _ _ (c .if2 .left) ∙ one-long _ _ _ (c .before .if1 .left)
-
 pub short-spec : {M : Type 1} → statement M
-short-spec = tie.close (tie.spec returns returns-2 returns-3)
+short-spec = tie.close (tie.spec
+    (λ c. one-short _ _ _ (c .if1 .taken))
+    (λ c. one-short _ _ _ (c .if2 .taken) ∙ one-long _ _ _ (c .before .if1 .left))
+    (λ c. one-long _ _ _ (c .if2 .left) ∙ one-long _ _ _ (c .before .if1 .left)))

@@ -18,21 +18,6 @@ Inv-loop given facts count w₀ i₀ w i = (i ≤ count) × Word (λ p. has give
 abbrev μ-loop : tie.MeasureT-loop
 μ-loop given facts count w₀ i₀ w i = count - i
 
-loop-holds : tie.Need-loop-holds Inv-loop μ-loop
-loop-holds c = (search needs, with-none _ _)
-
-shared-slice-read-set-fact : tie.Need-shared-slice-read-set-fact Inv-loop μ-loop
-shared-slice-read-set-fact c = search needs
-
-set-fact-requires : tie.Need-set-fact-requires Inv-loop μ-loop
-set-fact-requires c κs = c .before .before .before .before .pre .1 (c .before .before .loop .i) (omega arith)
-
-add-i : tie.Need-add-i Inv-loop μ-loop
-add-i c = search needs
-
-loop-less : tie.Need-loop-less Inv-loop μ-loop
-loop-less c = search needs
-
 loop-again : tie.Need-loop-again Inv-loop μ-loop
 loop-again c = (search needs, with-more _ _ (c .before .before .before .loop .w) _ (c .before .before .before .loop .i) (c .before .before .before .loop .inv .1) (c .set-fact .ensures))
 
@@ -42,4 +27,13 @@ returns c =
     rw all at (c .before .loop .inv .1)
 
 pub with-marked-spec : {M : Type 1} → statement M
-with-marked-spec = tie.close (tie.spec Inv-loop μ-loop loop-holds shared-slice-read-set-fact set-fact-requires add-i loop-less loop-again returns)
+with-marked-spec = tie.close (tie.spec
+    Inv-loop
+    μ-loop
+    (λ c. (search needs, with-none _ _))
+    (λ c. search needs)
+    (λ c κs. c .before .before .before .before .pre .1 (c .before .before .loop .i) (omega arith))
+    (λ c. search needs)
+    (λ c. search needs)
+    loop-again
+    returns)

@@ -22,24 +22,9 @@ Inv-loop w temperature humidity channels levels facts count left₀ i₀ left i 
 abbrev μ-loop : tie.MeasureT-loop
 μ-loop w temperature humidity channels levels facts count left₀ i₀ left i = count - i
 
-loop-holds : tie.Need-loop-holds Inv-loop μ-loop
-loop-holds c = (search needs, without-none _ _)
-
-mark-at-requires : tie.Need-mark-at-requires Inv-loop μ-loop
-mark-at-requires c κs = omega arith
-
 -- mark i, as the turn reads it
 mark-is : (c : tie.After-mark-at Inv-loop μ-loop) → let a = c .before .before .before .before .before .args in c .mark-at .result ≡ markAt (now (a .channels)) (now (a .levels)) (now (a .facts)) (c .before .before .loop .i)
 mark-is c = c .mark-at .ensures
-
-clear-if-missed-requires : tie.Need-clear-if-missed-requires Inv-loop μ-loop
-clear-if-missed-requires c κs = rw (mark-is c) (c .before .before .before .before .before .pre .1 (c .before .before .loop .i) (omega arith))
-
-add-i : tie.Need-add-i Inv-loop μ-loop
-add-i c = search needs
-
-loop-less : tie.Need-loop-less Inv-loop μ-loop
-loop-less c = search needs
 
 loop-again : tie.Need-loop-again Inv-loop μ-loop
 loop-again c =
@@ -53,4 +38,13 @@ returns c =
     rw (all, toZ-ofZ w16 (start .args .temperature) (start .fits .temperature), toZ-ofZ w16 (start .args .humidity) (start .fits .humidity)) at (c .before .loop .inv .1)
 
 pub without-missed-spec : {M : Type 1} → statement M
-without-missed-spec = tie.close (tie.spec Inv-loop μ-loop loop-holds mark-at-requires clear-if-missed-requires add-i loop-less loop-again returns)
+without-missed-spec = tie.close (tie.spec
+    Inv-loop
+    μ-loop
+    (λ c. (search needs, without-none _ _))
+    (λ c κs. omega arith)
+    (λ c κs. rw (mark-is c) (c .before .before .before .before .before .pre .1 (c .before .before .loop .i) (omega arith)))
+    (λ c. search needs)
+    (λ c. search needs)
+    loop-again
+    returns)

@@ -41,36 +41,24 @@ cast s = rw (s .is, toZ-ofZ w64 (pos (s .size)) (record { sfits = s .small })) (
 below : (c : tie.Then1) → Size (pos 0 -ℤ toZ w64 (ofZ w64 (toZ w16 (ofZ w16 (c .before .args .n)))))
 below c = rw (carried (c .before)) (negative (c .before .args .n) (c .before .fits .n) (rw (carried (c .before)) at (c .if1 .taken)))
 
-cast-z : tie.Need-cast-z
-cast-z c = rw (toZ-ofZ w16 (c .args .n) (c .fits .n)) (wide (c .fits .n))
-
-byte-requires : tie.Need-byte-requires
-byte-requires c κs = search needs
-
 sub-number : tie.Need-sub-number
 sub-number c =
     let s = below (c .before) in
     rw (s .is) (record { sfits = s .small })
-
-cast-number : tie.Need-cast-number
-cast-number c = cast (below (c .before))
-
-number-requires : tie.Need-number-requires
-number-requires c κs = search needs
 
 cast-number-2 : tie.Need-cast-number-2
 cast-number-2 c =
     let back = toZ-ofZ w16 (c .before .args .n) (c .before .fits .n) in
     cast {z = toZ w16 (ofZ w16 (c .before .args .n))} (rw back (other (c .before .args .n) (c .before .fits .n) (rw (carried (c .before)) at (c .if1 .left))))
 
-number-requires-2 : tie.Need-number-requires-2
-number-requires-2 c κs = search needs
-
-returns : tie.Need-returns
-returns c = search needs
-
-returns-2 : tie.Need-returns-2
-returns-2 c = search needs
-
 pub whole-spec : {M : Type 1} → statement M
-whole-spec = tie.close (tie.spec cast-z byte-requires sub-number cast-number number-requires cast-number-2 number-requires-2 returns returns-2)
+whole-spec = tie.close (tie.spec
+    (λ c. rw (toZ-ofZ w16 (c .args .n) (c .fits .n)) (wide (c .fits .n)))
+    (λ c κs. search needs)
+    sub-number
+    (λ c. cast (below (c .before)))
+    (λ c κs. search needs)
+    cast-number-2
+    (λ c κs. search needs)
+    (λ c. search needs)
+    (λ c. search needs))

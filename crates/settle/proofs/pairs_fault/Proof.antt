@@ -12,38 +12,17 @@ use borrow.Author.Needs.{needs}
 use Rattle.settle.proofs.pairs_fault.Statement.{statement}
 use Rattle.settle.proofs.pairs_fault.Tie as tie
 
-word-strays-requires : tie.Need-word-strays-requires
-word-strays-requires c κs = search needs
-
-refuse-requires : tie.Need-refuse-requires
-refuse-requires c κs = search needs
-
 returns : tie.Need-returns
 unfolding settleChecks
 returns c = λ l. judges-no (c .refuse .ensures) (if-hit _ 15 601 _ (test-yes (c .before .before .word-strays .ensures) (c .before .if1 .taken))) (omega arith)
-
-refuse-requires-2 : tie.Need-refuse-requires-2
-refuse-requires-2 c κs = search needs
 
 returns-2 : tie.Need-returns-2
 unfolding settleChecks
 returns-2 c = λ l. judges-no (c .refuse2 .ensures) (if-pass _ 15 601 _ (test-no (c .before .before .before .word-strays .ensures) (c .before .before .if1 .left)) ∙ if-hit _ 15 600 _ (lt→ltb 600 _ (c .before .if2 .taken))) (omega arith)
 
-first-outside-requires : tie.Need-first-outside-requires
-first-outside-requires c κs = search needs
-
-cast-refuse : tie.Need-cast-refuse
-cast-refuse c = search needs
-
-refuse-requires-3 : tie.Need-refuse-requires-3
-refuse-requires-3 c κs = search needs
-
 returns-3 : tie.Need-returns-3
 unfolding settleChecks
 returns-3 c = λ l. judges-no (c .refuse3 .ensures) (if-pass _ 15 601 _ (test-no (c .before .before .before .before .before .word-strays .ensures) (c .before .before .before .before .if1 .left)) ∙ if-pass _ 15 600 _ (λ h. omega (arith, ltb→lt 600 (c .before .before .before .before .before .before .before .args .q .pairs) h)) ∙ at-hit _ _ 15 _ (c .before .before .first-outside .ensures) (c .before .if3 .taken)) (omega arith)
-
-done-requires : tie.Need-done-requires
-done-requires c κs = search needs
 
 returns-4 : tie.Need-returns-4
 unfolding settleChecks
@@ -61,14 +40,14 @@ pub pairs-fault-spec : {M : Type 1} → statement M
 pairs-fault-spec =
     tie.close
     (tie.spec
-    word-strays-requires
-    refuse-requires
+    (λ c κs. search needs)
+    (λ c κs. search needs)
     returns
-    refuse-requires-2
+    (λ c κs. search needs)
     returns-2
-    first-outside-requires
-    cast-refuse
-    refuse-requires-3
+    (λ c κs. search needs)
+    (λ c. search needs)
+    (λ c κs. search needs)
     returns-3
-    done-requires
+    (λ c κs. search needs)
     returns-4)

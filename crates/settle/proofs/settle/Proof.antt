@@ -5,29 +5,14 @@ use borrow.Author.Needs.{needs}
 use Rattle.settle.proofs.settle.Statement.{statement}
 use Rattle.settle.proofs.settle.Tie as tie
 
-settle-fault-requires : tie.Need-settle-fault-requires
-settle-fault-requires c κs = search needs
-
 returns : tie.Need-returns
 returns c = refuses (c .before .before .before .before .before .args .l) (c .before .before .before .before .before .args .q) (now (c .before .before .before .before .before .args .pairs)) (now (c .before .before .before .before .before .args .out)) (c .before .before .settle-fault .ensures) (c .if1 .taken)
-
-settle-from-requires : tie.Need-settle-from-requires
-settle-from-requires c κs = c .before .before .settle-fault .ensures .order (c .if1 .left) .ready
-
-refuse-requires : tie.Need-refuse-requires
-refuse-requires c κs = search needs
 
 returns-2 : tie.Need-returns-2
 returns-2 c = none (c .before .before .before .before .before .before .before .before .args .l) (c .before .before .before .before .before .before .before .before .args .q) (now (c .before .before .before .before .before .before .before .before .args .pairs)) (now (c .before .before .before .before .before .before .before .before .args .out)) (c .before .before .before .before .before .settle-fault .ensures) (c .before .before .before .if1 .left) (c .before .before .settle-from .result) (c .before .before .settle-from .ensures) (not-true _ (c .before .if2 .taken)) (c .refuse .ensures)
 
 fill-requires : tie.Need-fill-requires
 fill-requires c κs = let s = c .before .before .before .before .before .before .settle-fault .ensures .order (c .before .before .before .before .if1 .left) in (s .ready .few, s .wide)
-
-done-requires : tie.Need-done-requires
-done-requires c κs = search needs
-
-same-length : tie.Need-same-length
-same-length c = search needs
 
 returns-3 : tie.Need-returns-3
 returns-3 c = gives (c .before .before .before .before .before .before .before .before .before .before .before .before .before .args .l) (c .before .before .before .before .before .before .before .before .before .before .before .before .before .args .q) (now (c .before .before .before .before .before .before .before .before .before .before .before .before .before .args .pairs)) (now (c .before .before .before .before .before .before .before .before .before .before .before .before .before .args .out)) (c .before .before .before .before .before .before .before .before .before .before .settle-fault .ensures) (c .before .before .before .before .before .before .before .before .if1 .left) (c .before .before .before .before .before .before .before .settle-from .result) (c .before .before .before .before .before .before .before .settle-from .ensures) _ (not-false _ (c .before .before .before .before .before .before .if2 .left)) (c .done .ensures) (c .before .before .before .fill .ensures)
@@ -36,12 +21,12 @@ pub settle-spec : {M : Type 1} → statement M
 settle-spec =
     tie.close
     (tie.spec
-    settle-fault-requires
+    (λ c κs. search needs)
     returns
-    settle-from-requires
-    refuse-requires
+    (λ c κs. c .before .before .settle-fault .ensures .order (c .if1 .left) .ready)
+    (λ c κs. search needs)
     returns-2
     fill-requires
-    done-requires
-    same-length
+    (λ c κs. search needs)
+    (λ c. search needs)
     returns-3)

@@ -4,17 +4,8 @@ use borrow.Author.Needs.{needs}
 use Rattle.settle.proofs.settle_fault.Statement.{statement}
 use Rattle.settle.proofs.settle_fault.Tie as tie
 
-too-few-requires : tie.Need-too-few-requires
-too-few-requires c κs = search needs
-
-call-fault-requires : tie.Need-call-fault-requires
-call-fault-requires c κs = search needs
-
 returns : tie.Need-returns
 returns c = call-refused (c .before .before .before .before .before .args .l) (c .before .before .before .before .before .args .q) (now (c .before .before .before .before .before .args .pairs)) (c .before .before .before .before .before .args .out) (c .before .before .before .too-few .ensures) (c .before .before .call-fault .ensures) (c .if1 .taken)
-
-refuse-requires : tie.Need-refuse-requires
-refuse-requires c κs = search needs
 
 returns-2 : tie.Need-returns-2
 returns-2 c = bound-refused (c .before .before .before .before .before .before .before .before .args .l) (c .before .before .before .before .before .before .before .before .args .q) (now (c .before .before .before .before .before .before .before .before .args .pairs)) (c .before .before .before .before .before .before .before .before .args .out) (c .before .before .before .before .before .before .too-few .ensures) (c .before .before .before .before .before .call-fault .ensures) (c .before .before .before .if1 .left) (c .refuse .ensures) (c .before .if2 .taken)
@@ -28,11 +19,4 @@ returns-3 c = pairs-judged (c .before .before .before .before .before .before .b
 pub settle-fault-spec : {M : Type 1} → statement M
 settle-fault-spec =
     tie.close
-    (tie.spec
-    too-few-requires
-    call-fault-requires
-    returns
-    refuse-requires
-    returns-2
-    pairs-fault-requires
-    returns-3)
+    (tie.spec (λ c κs. search needs) (λ c κs. search needs) returns (λ c κs. search needs) returns-2 pairs-fault-requires returns-3)

@@ -4,11 +4,5 @@ use Rattle.facts.proofs.Bools.{or-first, or-next}
 use Rattle.settle.proofs.too_few.Statement.{statement}
 use Rattle.settle.proofs.too_few.Tie as tie
 
-returns : tie.Need-returns
-returns c = or-first _ refl (lt-ltb _ _ (c .if1 .taken))
-
-returns-2 : tie.Need-returns-2
-returns-2 c = or-next refl (le-ltb _ _ (c .if1 .left)) refl
-
 pub too-few-spec : {M : Type 1} → statement M
-too-few-spec = tie.close (tie.spec returns returns-2)
+too-few-spec = tie.close (tie.spec (λ c. or-first _ refl (lt-ltb _ _ (c .if1 .taken))) (λ c. or-next refl (le-ltb _ _ (c .if1 .left)) refl))

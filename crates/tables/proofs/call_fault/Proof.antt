@@ -15,31 +15,13 @@ use borrow.Author.Needs.{needs}
 use Rattle.tables.proofs.call_fault.Statement.{statement}
 use Rattle.tables.proofs.call_fault.Tie as tie
 
-too-short-requires : tie.Need-too-short-requires
-too-short-requires c κs = search needs
-
-refuse-requires : tie.Need-refuse-requires
-refuse-requires c κs = search needs
-
 returns : tie.Need-returns
 unfolding tableChecks
 returns c = judges-no (c .refuse .ensures) (if-hit _ 3 0 _ (test-yes (c .before .before .too-short .ensures) (c .before .if1 .taken))) (omega arith)
 
-cast-outside : tie.Need-cast-outside
-cast-outside c = search needs
-
-outside-requires : tie.Need-outside-requires
-outside-requires c κs = search needs
-
-refuse-requires-2 : tie.Need-refuse-requires-2
-refuse-requires-2 c κs = search needs
-
 returns-2 : tie.Need-returns-2
 unfolding tableChecks
 returns-2 c = judges-no (c .refuse2 .ensures) (if-pass _ 3 0 _ (test-no (c .before .before .before .before .before .too-short .ensures) (c .before .before .before .before .if1 .left)) ∙ if-hit _ 4 0 _ (test-yes (c .before .before .outside .ensures) (c .before .if2 .taken))) (omega arith)
-
-refuse-requires-3 : tie.Need-refuse-requires-3
-refuse-requires-3 c κs = search needs
 
 returns-3 : tie.Need-returns-3
 unfolding tableChecks
@@ -56,14 +38,14 @@ pub call-fault-spec : {M : Type 1} → statement M
 call-fault-spec =
     tie.close
     (tie.spec
-    too-short-requires
-    refuse-requires
+    (λ c κs. search needs)
+    (λ c κs. search needs)
     returns
-    cast-outside
-    outside-requires
-    refuse-requires-2
+    (λ c. search needs)
+    (λ c κs. search needs)
+    (λ c κs. search needs)
     returns-2
-    refuse-requires-3
+    (λ c κs. search needs)
     returns-3
     jobs-fault-requires
     returns-4)

@@ -17,32 +17,11 @@ Inv-loop l n i₀ i = (i ≤ n) × ((k : ℕ) → k < i → T (not (between 1 96
 abbrev μ-loop : tie.MeasureT-loop
 μ-loop l n i₀ i = n - i
 
-loop-holds : tie.Need-loop-holds Inv-loop μ-loop
-loop-holds c = (omega arith, λ k h. absurd (omega arith))
-
-mul-outside : tie.Need-mul-outside Inv-loop μ-loop
-mul-outside c = search needs
-
-element-copy-out-outside : tie.Need-element-copy-out-outside Inv-loop μ-loop
-element-copy-out-outside c = search needs
-
-outside-requires : tie.Need-outside-requires Inv-loop μ-loop
-outside-requires c κs = search needs
-
 returns : tie.Need-returns Inv-loop μ-loop
 returns c = found _ _ _ (omega arith) (test-yes (c .before .outside .ensures) (c .if1 .taken)) (c .before .before .before .before .loop .inv .1)
 
-add-i : tie.Need-add-i Inv-loop μ-loop
-add-i c = search needs
-
-loop-less : tie.Need-loop-less Inv-loop μ-loop
-loop-less c = search needs
-
 loop-again : tie.Need-loop-again Inv-loop μ-loop
 loop-again c = (omega arith, below-more _ _ (c .before .before .before .before .loop .inv .1) (test-no (c .before .outside .ensures) (c .if1 .left)))
-
-returns-2 : tie.Need-returns-2 Inv-loop μ-loop
-returns-2 c = not-found _ _ _ (omega arith) (c .before .loop .inv .1)
 
 pub first-duration-spec : {M : Type 1} → statement M
 first-duration-spec =
@@ -50,12 +29,12 @@ first-duration-spec =
     (tie.spec
     Inv-loop
     μ-loop
-    loop-holds
-    mul-outside
-    element-copy-out-outside
-    outside-requires
+    (λ c. (omega arith, λ k h. absurd (omega arith)))
+    (λ c. search needs)
+    (λ c. search needs)
+    (λ c κs. search needs)
     returns
-    add-i
-    loop-less
+    (λ c. search needs)
+    (λ c. search needs)
     loop-again
-    returns-2)
+    (λ c. not-found _ _ _ (omega arith) (c .before .loop .inv .1)))

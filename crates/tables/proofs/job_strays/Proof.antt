@@ -4,36 +4,6 @@ use borrow.Author.Needs.{needs}
 use Rattle.tables.proofs.job_strays.Statement.{statement}
 use Rattle.tables.proofs.job_strays.Tie as tie
 
-cast-atoms : tie.Need-cast-atoms
-cast-atoms c = search needs
-
-mul-word-strays : tie.Need-mul-word-strays
-mul-word-strays c = search needs
-
-element-copy-out-word-strays : tie.Need-element-copy-out-word-strays
-element-copy-out-word-strays c = search needs
-
-word-strays-requires : tie.Need-word-strays-requires
-word-strays-requires c κs = search needs
-
-mul-word-strays-2 : tie.Need-mul-word-strays-2
-mul-word-strays-2 c = search needs
-
-element-copy-out-word-strays-2 : tie.Need-element-copy-out-word-strays-2
-element-copy-out-word-strays-2 c = search needs
-
-word-strays-requires-2 : tie.Need-word-strays-requires-2
-word-strays-requires-2 c κs = search needs
-
-mul-word-strays-3 : tie.Need-mul-word-strays-3
-mul-word-strays-3 c = search needs
-
-element-copy-out-word-strays-3 : tie.Need-element-copy-out-word-strays-3
-element-copy-out-word-strays-3 c = search needs
-
-word-strays-requires-3 : tie.Need-word-strays-requires-3
-word-strays-requires-3 c κs = search needs
-
 returns : tie.Need-returns
 unfolding jobStrays
 returns c = or-first _ (c .before .word-strays .ensures) (c .if1 .taken)
@@ -50,16 +20,16 @@ pub job-strays-spec : {M : Type 1} → statement M
 job-strays-spec =
     tie.close
     (tie.spec
-    cast-atoms
-    mul-word-strays
-    element-copy-out-word-strays
-    word-strays-requires
-    mul-word-strays-2
-    element-copy-out-word-strays-2
-    word-strays-requires-2
-    mul-word-strays-3
-    element-copy-out-word-strays-3
-    word-strays-requires-3
+    (λ c. search needs)
+    (λ c. search needs)
+    (λ c. search needs)
+    (λ c κs. search needs)
+    (λ c. search needs)
+    (λ c. search needs)
+    (λ c κs. search needs)
+    (λ c. search needs)
+    (λ c. search needs)
+    (λ c κs. search needs)
     returns
     returns-2
     returns-3)

@@ -19,24 +19,6 @@ use Rattle.tenths.proofs.floor_times.Tie as tie
 fewer : (c : tie.After-digits) → c .before .args .c * c .digits .result < 2 ^ 63
 fewer c = subst (λ (q : ℕ). c .before .args .c * q < 2 ^ 63) (sym (c .digits .ensures)) (digits-few (c .before .args .c) (toBits binary64 (c .before .args .x)) (c .before .pre .0))
 
-float-to-bits-bits : tie.Need-float-to-bits-bits
-float-to-bits-bits c = no-nan (c .args .x) (c .pre .1)
-
-digits-requires : tie.Need-digits-requires
-digits-requires c κs = search needs
-
-mul-give-sign : tie.Need-mul-give-sign
-mul-give-sign c = omega (arith, fewer c)
-
-give-sign-requires : tie.Need-give-sign-requires
-give-sign-requires c κs = fewer c
-
-drop-requires : tie.Need-drop-requires
-drop-requires c κs = search needs
-
-shifted-requires : tie.Need-shifted-requires
-shifted-requires c κs = search needs
-
 returns : tie.Need-returns
 returns c =
     let signs = c .before .before in
@@ -52,4 +34,11 @@ returns c =
     ∙ worked k x (subst T (sym (start .good .1 .0 .1)) tt) (start .pre .1) (start .pre .0)
 
 pub floor-times-spec : {M : Type 1} → statement M
-floor-times-spec = tie.close (tie.spec float-to-bits-bits digits-requires mul-give-sign give-sign-requires drop-requires shifted-requires returns)
+floor-times-spec = tie.close (tie.spec
+    (λ c. no-nan (c .args .x) (c .pre .1))
+    (λ c κs. search needs)
+    (λ c. omega (arith, fewer c))
+    (λ c κs. fewer c)
+    (λ c κs. search needs)
+    (λ c κs. search needs)
+    returns)

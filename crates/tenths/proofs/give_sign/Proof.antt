@@ -16,9 +16,6 @@ use Rattle.tenths.proofs.give_sign.Tie as tie
 negated : (n : ℕ) → n < 2 ^ 63 → pos 0 -ℤ toZ w64 n ≡ negℤ (pos n)
 negated n h = ap (λ (z : ℤ). pos 0 -ℤ z) (toZ-pos w64 n h) ∙ +ℤ-idl (negℤ (pos n))
 
-cast-n : tie.Need-cast-n
-cast-n c = search needs
-
 sub-result : tie.Need-sub-result
 sub-result c =
     let n = c .before .args .size in
@@ -35,4 +32,4 @@ returns-2 c =
     toZ-pos w64 n (c .before .pre) ∙ ap (λ (s : Bool). signed s n) (sym (c .if1 .left))
 
 pub give-sign-spec : {M : Type 1} → statement M
-give-sign-spec = tie.close (tie.spec cast-n sub-result returns returns-2)
+give-sign-spec = tie.close (tie.spec (λ c. search needs) sub-result returns returns-2)

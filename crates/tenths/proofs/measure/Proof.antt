@@ -9,20 +9,15 @@ use Rattle.tenths.specs.Tenths.{inRange}
 use Rattle.tenths.proofs.measure.Statement.{statement}
 use Rattle.tenths.proofs.measure.Tie as tie
 
-in-range-requires : tie.Need-in-range-requires
-in-range-requires c κs = search needs
-
 inside : (c : tie.Then1) → inRange (c .before .before .args .x) ≡ true
 inside c = sym (c .before .in-range .ensures) ∙ c .if1 .taken
-
-tenths-of-requires : tie.Need-tenths-of-requires
-tenths-of-requires c κs = subst T (sym (inside c)) tt
 
 returns : tie.Need-returns
 returns c = rw (inside (c .before), toZ-ofZ w16 (c .tenths-of .result) (record { sfits = c .tenths-of .ok }), c .tenths-of .ensures)
 
-returns-2 : tie.Need-returns-2
-returns-2 c = rw (sym (c .before .in-range .ensures) ∙ c .if1 .left)
-
 pub measure-spec : {M : Type 1} → statement M
-measure-spec = tie.close (tie.spec in-range-requires tenths-of-requires returns returns-2)
+measure-spec = tie.close (tie.spec
+    (λ c κs. search needs)
+    (λ c κs. subst T (sym (inside c)) tt)
+    returns
+    (λ c. rw (sym (c .before .in-range .ensures) ∙ c .if1 .left)))

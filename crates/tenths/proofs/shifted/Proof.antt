@@ -11,12 +11,6 @@ use borrow.Author.Needs.{needs}
 use Rattle.tenths.proofs.shifted.Statement.{statement}
 use Rattle.tenths.proofs.shifted.Tie as tie
 
-cast-result : tie.Need-cast-result
-cast-result c = search needs
-
-shr-result : tie.Need-shr-result
-shr-result c = search needs
-
 returns : tie.Need-returns
 returns c =
     let n = c .args .n in
@@ -25,4 +19,4 @@ returns c =
     ∙ toZ-ofZ w64 (shrZ n d) (record { sfits = lt-of-le-of-lt (mag-shr n d) (c .fits .n .sfits) })
 
 pub shifted-spec : {M : Type 1} → statement M
-shifted-spec = tie.close (tie.spec cast-result shr-result returns)
+shifted-spec = tie.close (tie.spec (λ c. search needs) (λ c. search needs) returns)

@@ -15,9 +15,6 @@ use Rattle.tenths.proofs.Parts.{floor-small}
 use Rattle.tenths.proofs.tenths_of.Statement.{statement}
 use Rattle.tenths.proofs.tenths_of.Tie as tie
 
-floor-times-requires : tie.Need-floor-times-requires
-floor-times-requires c κs = search needs
-
 back : (c : tie.After-floor-times) → toZ w64 (ofZ w64 (c .floor-times .result)) ≡ c .floor-times .result
 back c = toZ-ofZ w64 (c .floor-times .result) (record { sfits = c .floor-times .ok })
 
@@ -32,4 +29,4 @@ unfolding tenths floorTimes
 returns c = toZ-ofZ w16 _ (cast-result c) ∙ back c ∙ c .floor-times .ensures
 
 pub tenths-of-spec : {M : Type 1} → statement M
-tenths-of-spec = tie.close (tie.spec floor-times-requires cast-result returns)
+tenths-of-spec = tie.close (tie.spec (λ c κs. search needs) cast-result returns)

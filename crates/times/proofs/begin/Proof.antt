@@ -15,35 +15,8 @@ Inv-loop q lo n t₀ j₀ t j = (j ≤ n) × (length t ≡ 24) × Begins q (entr
 abbrev μ-loop : tie.MeasureT-loop
 μ-loop q lo n t₀ j₀ t j = n - j
 
-loop-holds : tie.Need-loop-holds Inv-loop μ-loop
-loop-holds c = (omega arith, search needs, λ k h. absurd (omega arith))
-
-mul-begin-at : tie.Need-mul-begin-at Inv-loop μ-loop
-mul-begin-at c = search needs
-
-array-read-begin-at : tie.Need-array-read-begin-at Inv-loop μ-loop
-array-read-begin-at c = search needs
-
-begin-at-requires : tie.Need-begin-at-requires Inv-loop μ-loop
-begin-at-requires c κs = search needs
-
-mul-t : tie.Need-mul-t Inv-loop μ-loop
-mul-t c = search needs
-
-array-write-t : tie.Need-array-write-t Inv-loop μ-loop
-array-write-t c = omega (arith, c .before .before .loop .inv .1)
-
-add-j : tie.Need-add-j Inv-loop μ-loop
-add-j c = search needs
-
-loop-less : tie.Need-loop-less Inv-loop μ-loop
-loop-less c = search needs
-
 loop-again : tie.Need-loop-again Inv-loop μ-loop
 loop-again c = (omega arith, simp length-set (c .before .before .loop .inv .1), stored _ (c .before .before .loop .t) (c .before .before .loop .j) _ (omega (arith, c .before .before .loop .inv .1)) (c .before .before .loop .inv .2) (c .begin-at .ensures))
-
-returns : tie.Need-returns Inv-loop μ-loop
-returns c = λ k h. c .before .loop .inv .2 k (omega arith)
 
 pub begin-spec : {M : Type 1} → statement M
 begin-spec =
@@ -51,13 +24,13 @@ begin-spec =
     (tie.spec
     Inv-loop
     μ-loop
-    loop-holds
-    mul-begin-at
-    array-read-begin-at
-    begin-at-requires
-    mul-t
-    array-write-t
-    add-j
-    loop-less
+    (λ c. (omega arith, search needs, λ k h. absurd (omega arith)))
+    (λ c. search needs)
+    (λ c. search needs)
+    (λ c κs. search needs)
+    (λ c. search needs)
+    (λ c. omega (arith, c .before .before .loop .inv .1))
+    (λ c. search needs)
+    (λ c. search needs)
     loop-again
-    returns)
+    (λ c. λ k h. c .before .loop .inv .2 k (omega arith)))

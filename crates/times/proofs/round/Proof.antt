@@ -21,24 +21,6 @@ abbrev μ-loop : tie.MeasureT-loop
 loop-holds : tie.Need-loop-holds Inv-loop μ-loop
 loop-holds c = (omega arith, search needs, pushed-none (c .before .args .t1) (c .before .args .q) (now (c .before .args .pairs)) (entry (c .before .args .t)), λ i h. absurd (omega arith))
 
-mul-at : tie.Need-mul-at Inv-loop μ-loop
-mul-at c = omega arith
-
-shared-slice-read-job : tie.Need-shared-slice-read-job Inv-loop μ-loop
-shared-slice-read-job c = omega arith
-
-job-requires : tie.Need-job-requires Inv-loop μ-loop
-job-requires c κs = search needs
-
-add-job : tie.Need-add-job Inv-loop μ-loop
-add-job c = omega arith
-
-shared-slice-read-job-2 : tie.Need-shared-slice-read-job-2 Inv-loop μ-loop
-shared-slice-read-job-2 c = omega arith
-
-job-requires-2 : tie.Need-job-requires-2 Inv-loop μ-loop
-job-requires-2 c κs = search needs
-
 mul-push : tie.Need-mul-push Inv-loop μ-loop
 mul-push c = omega (arith, first-job (c .before .before .before .before .before .before .before .args .t1) (c .before .before .before .before .before .before .before .args .q) (now (c .before .before .before .before .before .before .before .args .pairs)) (c .before .before .before .before .before .before .before .pre) (c .before .before .before .before .before .loop .k) (c .before .before .before .before .loop-test .taken), c .before .before .job .ensures, c .before .before .before .before .before .before .before .pre .few)
 
@@ -58,12 +40,6 @@ returns : tie.Need-returns Inv-loop μ-loop
 returns c = let e = not-true _ (c .if1 .taken) in
     record { pushed = λ o. absurd (true≢false (sym o ∙ e)); behind = λ o. absurd (true≢false (sym o ∙ e)); none = λ o. pair-none (c .before .before .before .before .before .before .before .before .before .before .before .args .t1) (c .before .before .before .before .before .before .before .before .before .before .before .args .q) (now (c .before .before .before .before .before .before .before .before .before .before .before .args .pairs)) (c .before .before .before .before .before .before .before .before .before .before .before .pre) (entry (c .before .before .before .before .before .before .before .before .before .before .before .args .t)) (c .before .before .before .before .before .before .before .before .before .loop .s) (c .before .before .before .before .before .before .before .before .before .loop .k) (c .before .before .before .before .before .before .before .before .loop-test .taken) (c .before .before .before .before .before .before .before .before .before .loop .inv .2) (c .before .push .result) (pushes-by (c .before .before .before .before .before .before .before .before .before .before .before .args .t1) (c .before .before .before .before .before .before .before .before .before .before .before .args .q) (c .before .before .before .before .before .before .before .before .before .loop .s) (c .before .push .result) (c .before .before .before .before .before .before .job .ensures) (c .before .before .before .before .job2 .ensures) (c .before .push .ensures)) e }
 
-add-k : tie.Need-add-k Inv-loop μ-loop
-add-k c = search needs
-
-loop-less : tie.Need-loop-less Inv-loop μ-loop
-loop-less c = search needs
-
 loop-again : tie.Need-loop-again Inv-loop μ-loop
 loop-again c = (omega arith, search needs, pair-pushed (c .before .before .before .before .before .before .before .before .before .before .before .before .args .t1) (c .before .before .before .before .before .before .before .before .before .before .before .before .args .q) (now (c .before .before .before .before .before .before .before .before .before .before .before .before .args .pairs)) (c .before .before .before .before .before .before .before .before .before .before .before .before .pre) (entry (c .before .before .before .before .before .before .before .before .before .before .before .before .args .t)) (c .before .before .before .before .before .before .before .before .before .before .loop .s) (c .before .before .before .before .before .before .before .before .before .before .loop .k) (c .before .before .before .before .before .before .before .before .before .loop-test .taken) (c .before .before .before .before .before .before .before .before .before .before .loop .inv .2) (c .before .before .push .result) (pushes-by (c .before .before .before .before .before .before .before .before .before .before .before .before .args .t1) (c .before .before .before .before .before .before .before .before .before .before .before .before .args .q) (c .before .before .before .before .before .before .before .before .before .before .loop .s) (c .before .before .push .result) (c .before .before .before .before .before .before .before .job .ensures) (c .before .before .before .before .before .job2 .ensures) (c .before .before .push .ensures)) (not-false _ (c .before .if1 .left)), pair-behind (c .before .before .before .before .before .before .before .before .before .before .before .before .args .t1) (c .before .before .before .before .before .before .before .before .before .before .before .before .args .q) (now (c .before .before .before .before .before .before .before .before .before .before .before .before .args .pairs)) (c .before .before .before .before .before .before .before .before .before .before .before .before .pre) (entry (c .before .before .before .before .before .before .before .before .before .before .before .before .args .t)) (c .before .before .before .before .before .before .before .before .before .before .loop .s) (c .before .before .before .before .before .before .before .before .before .before .loop .k) (c .before .before .before .before .before .before .before .before .before .loop-test .taken) (c .before .before .before .before .before .before .before .before .before .before .loop .inv .2) (c .before .before .push .result) (pushes-by (c .before .before .before .before .before .before .before .before .before .before .before .before .args .t1) (c .before .before .before .before .before .before .before .before .before .before .before .before .args .q) (c .before .before .before .before .before .before .before .before .before .before .loop .s) (c .before .before .push .result) (c .before .before .before .before .before .before .before .job .ensures) (c .before .before .before .before .before .job2 .ensures) (c .before .before .push .ensures)) (c .before .before .before .before .before .before .before .before .before .before .loop .inv .3) (not-false _ (c .before .if1 .left)))
 
@@ -77,19 +53,19 @@ round-spec =
     Inv-loop
     μ-loop
     loop-holds
-    mul-at
-    shared-slice-read-job
-    job-requires
-    add-job
-    shared-slice-read-job-2
-    job-requires-2
+    (λ c. omega arith)
+    (λ c. omega arith)
+    (λ c κs. search needs)
+    (λ c. omega arith)
+    (λ c. omega arith)
+    (λ c κs. search needs)
     mul-push
     element-copy-out-push
     mul-push-2
     element-copy-out-push-2
     push-requires
     returns
-    add-k
-    loop-less
+    (λ c. search needs)
+    (λ c. search needs)
     loop-again
     returns-2)

@@ -20,14 +20,8 @@ abbrev μ-loop : tie.MeasureT-loop
 loop-holds : tie.Need-loop-holds Inv-loop μ-loop
 loop-holds c = (search needs, pushed-none (c .before .args .l) (c .before .args .q) (now (c .before .args .pairs)) (entry (c .before .args .t)))
 
-round-requires : tie.Need-round-requires Inv-loop μ-loop
-round-requires c κs = search needs
-
 returns : tie.Need-returns Inv-loop μ-loop
 returns c = round-none (c .before .before .before .before .args .l) (c .before .before .before .before .args .q) (now (c .before .before .before .before .args .pairs)) (c .before .before .before .before .pre) (c .before .before .before .before .args .t) (c .before .before .loop .s) (c .before .before .loop .inv .1) (c .before .round .result) (c .before .round .ensures) (not-true _ (c .if1 .taken))
-
-same-requires : tie.Need-same-requires Inv-loop μ-loop
-same-requires c κs = c .before .before .before .before .before .pre .few
 
 returns-2 : tie.Need-returns-2 Inv-loop μ-loop
 returns-2 c = round-last (c .before .before .before .before .before .before .before .args .l) (c .before .before .before .before .before .before .before .args .q) (now (c .before .before .before .before .before .before .before .args .pairs)) (c .before .before .before .before .before .before .before .pre) (c .before .before .before .before .before .before .before .args .t) (c .before .before .before .before .before .loop .s) (c .before .before .before .before .before .loop .inv .1) (c .before .before .before .before .round .result) (c .before .before .before .before .round .ensures) (not-false _ (c .before .before .before .if1 .left)) (c .before .same .ensures .yea (c .if2 .taken))
@@ -45,9 +39,9 @@ rounds-spec =
     Inv-loop
     μ-loop
     loop-holds
-    round-requires
+    (λ c κs. search needs)
     returns
-    same-requires
+    (λ c κs. c .before .before .before .before .before .pre .few)
     returns-2
     loop-less
     loop-again)

@@ -6,15 +6,6 @@ use borrow.Author.Needs.{needs}
 use Rattle.times.proofs.settle_from.Statement.{statement}
 use Rattle.times.proofs.settle_from.Tie as tie
 
-begin-requires : tie.Need-begin-requires
-begin-requires c κs = search needs
-
-all-end-requires : tie.Need-all-end-requires
-all-end-requires c κs = search needs
-
-rounds-requires : tie.Need-rounds-requires
-rounds-requires c κs = search needs
-
 returns : tie.Need-returns
 returns c = found (c .before .before .before .before .before .args .l) (c .before .before .before .before .before .args .q) (now (c .before .before .before .before .before .args .pairs)) (c .before .before .before .before .before .pre) (entry (c .before .before .before .before .before .args .lo)) (c .before .before .before .begin .result) (c .before .before .before .begin .ensures) (c .rounds .result) (c .before .before .all-end .ensures .yea (c .before .if1 .taken)) (c .rounds .ensures)
 
@@ -23,4 +14,4 @@ returns-2 c = found-late (c .before .before .before .before .args .l) (c .before
 
 pub settle-from-spec : {M : Type 1} → statement M
 settle-from-spec =
-    tie.close (tie.spec begin-requires all-end-requires rounds-requires returns returns-2)
+    tie.close (tie.spec (λ c κs. search needs) (λ c κs. search needs) (λ c κs. search needs) returns returns-2)

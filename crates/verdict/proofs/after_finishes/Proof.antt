@@ -20,42 +20,6 @@ loop-holds : tie.Need-loop-holds Inv-loop μ-loop
 unfolding finishes
 loop-holds c = (omega arith, λ q p. refl)
 
-mul-ends-at : tie.Need-mul-ends-at Inv-loop μ-loop
-mul-ends-at c = search needs
-
-shared-slice-read-ends-at : tie.Need-shared-slice-read-ends-at Inv-loop μ-loop
-shared-slice-read-ends-at c = search needs
-
-mul-ends-at-2 : tie.Need-mul-ends-at-2 Inv-loop μ-loop
-mul-ends-at-2 c = search needs
-
-element-copy-out-ends-at : tie.Need-element-copy-out-ends-at Inv-loop μ-loop
-element-copy-out-ends-at c = search needs
-
-ends-at-requires : tie.Need-ends-at-requires Inv-loop μ-loop
-ends-at-requires c κs = search needs
-
-mul-after-job : tie.Need-mul-after-job Inv-loop μ-loop
-mul-after-job c = search needs
-
-element-copy-out-after-job : tie.Need-element-copy-out-after-job Inv-loop μ-loop
-element-copy-out-after-job c = search needs
-
-mul-after-job-2 : tie.Need-mul-after-job-2 Inv-loop μ-loop
-mul-after-job-2 c = search needs
-
-element-copy-out-after-job-2 : tie.Need-element-copy-out-after-job-2 Inv-loop μ-loop
-element-copy-out-after-job-2 c = search needs
-
-after-job-requires : tie.Need-after-job-requires Inv-loop μ-loop
-after-job-requires c κs = search needs
-
-add-i : tie.Need-add-i Inv-loop μ-loop
-add-i c = search needs
-
-loop-less : tie.Need-loop-less Inv-loop μ-loop
-loop-less c = search needs
-
 loop-again : tie.Need-loop-again Inv-loop μ-loop
 unfolding inPlan ends
 loop-again c = (omega arith, λ q p. finishes-more (problem (c .before .before .before .before .before .before .before .before .before .args .t1) q) (starts (c .before .before .before .before .before .before .before .before .before .args .s .now)) p (c .before .before .before .before .before .before .before .before .before .args .t) (c .before .before .before .before .before .before .before .loop .i) (has (c .before .before .before .before .before .before .before .before .before .args .before) p) (c .after-job .ensures p) (c .before .before .before .ends-at .ensures) (c .before .before .before .before .before .before .before .loop .inv .1 q p))
@@ -70,17 +34,17 @@ after-finishes-spec =
     Inv-loop
     μ-loop
     loop-holds
-    mul-ends-at
-    shared-slice-read-ends-at
-    mul-ends-at-2
-    element-copy-out-ends-at
-    ends-at-requires
-    mul-after-job
-    element-copy-out-after-job
-    mul-after-job-2
-    element-copy-out-after-job-2
-    after-job-requires
-    add-i
-    loop-less
+    (λ c. search needs)
+    (λ c. search needs)
+    (λ c. search needs)
+    (λ c. search needs)
+    (λ c κs. search needs)
+    (λ c. search needs)
+    (λ c. search needs)
+    (λ c. search needs)
+    (λ c. search needs)
+    (λ c κs. search needs)
+    (λ c. search needs)
+    (λ c. search needs)
     loop-again
     returns)

@@ -4,9 +4,6 @@ use Rattle.rules.specs.Plans.{afterIf}
 use Rattle.verdict.proofs.after_job.Statement.{statement}
 use Rattle.verdict.proofs.after_job.Tie as tie
 
-after-requires : tie.Need-after-requires
-after-requires c κs = search needs
-
 returns : tie.Need-returns
 unfolding afterIf
 returns c = rw (c .before .if1 .taken) (c .after .ensures)
@@ -16,4 +13,4 @@ unfolding afterIf
 returns-2 c = rw (c .if1 .left) (λ p. refl)
 
 pub after-job-spec : {M : Type 1} → statement M
-after-job-spec = tie.close (tie.spec after-requires returns returns-2)
+after-job-spec = tie.close (tie.spec (λ c κs. search needs) returns returns-2)

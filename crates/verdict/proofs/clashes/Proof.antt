@@ -18,24 +18,9 @@ Inv-loop l s i n j₀ j = (i < j) × (j ≤ n) × ((k : ℕ) → k < j → i < k
 abbrev μ-loop : tie.MeasureT-loop
 μ-loop l s i n j₀ j = n - j
 
-add-j : tie.Need-add-j Inv-loop μ-loop
-add-j c = search needs
-
-loop-holds : tie.Need-loop-holds Inv-loop μ-loop
-loop-holds c = (omega arith, omega arith, λ k h m. absurd (omega arith))
-
-overlap-requires : tie.Need-overlap-requires Inv-loop μ-loop
-overlap-requires c κs = search needs
-
 returns : tie.Need-returns Inv-loop μ-loop
 unfolding clashes
 returns c = passes _ (any-of _ _ (c .before .before .before .loop .j) (c .before .before .loop-test .taken) (and-of (ltb (c .before .before .before .before .before .args .i) (c .before .before .before .loop .j)) _ (lt→ltb (c .before .before .before .before .before .args .i) (c .before .before .before .loop .j) (c .before .before .before .loop .inv .0)) (test-yes (c .before .overlap .ensures (c .before .before .before .before .before .args .q)) (c .if1 .taken))))
-
-add-j-2 : tie.Need-add-j-2 Inv-loop μ-loop
-add-j-2 c = search needs
-
-loop-less : tie.Need-loop-less Inv-loop μ-loop
-loop-less c = search needs
 
 loop-again : tie.Need-loop-again Inv-loop μ-loop
 loop-again c = (omega arith, omega arith, below-more _ _ (c .before .before .before .loop .inv .2) (λ m q. test-no (c .before .overlap .ensures q) (c .if1 .left)))
@@ -50,11 +35,11 @@ clashes-spec =
     (tie.spec
     Inv-loop
     μ-loop
-    add-j
-    loop-holds
-    overlap-requires
+    (λ c. search needs)
+    (λ c. (omega arith, omega arith, λ k h m. absurd (omega arith)))
+    (λ c κs. search needs)
     returns
-    add-j-2
-    loop-less
+    (λ c. search needs)
+    (λ c. search needs)
     loop-again
     returns-2)

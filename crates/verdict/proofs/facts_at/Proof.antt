@@ -15,24 +15,9 @@ Inv-loop l q s t till state₀ next₀ state next = (1 ≤ next) × (next ≤ ti
 abbrev μ-loop : tie.MeasureT-loop
 μ-loop l q s t till state₀ next₀ state next = till - next
 
-add-till : tie.Need-add-till Inv-loop μ-loop
-add-till c = search needs
-
-next-finish-requires : tie.Need-next-finish-requires Inv-loop μ-loop
-next-finish-requires c κs = search needs
-
 loop-holds : tie.Need-loop-holds Inv-loop μ-loop
 unfolding holds
 loop-holds c = (c .next-finish .ensures .later, c .next-finish .ensures .least, moved (problem (c .before .before .args .l) (c .before .before .args .q)) (starts (c .before .before .args .s .now)) 0 (c .before .before .args .t + 1) _ _ (c .next-finish .ensures) (λ p. refl))
-
-after-finishes-requires : tie.Need-after-finishes-requires Inv-loop μ-loop
-after-finishes-requires c κs = search needs
-
-next-finish-requires-2 : tie.Need-next-finish-requires-2 Inv-loop μ-loop
-next-finish-requires-2 c κs = search needs
-
-loop-less : tie.Need-loop-less Inv-loop μ-loop
-loop-less c = omega (arith, c .next-finish2 .ensures .later)
 
 loop-again : tie.Need-loop-again Inv-loop μ-loop
 loop-again c = (omega (arith, c .next-finish2 .ensures .later), c .next-finish2 .ensures .least, moved (problem (c .before .before .before .before .before .before .args .l) (c .before .before .before .before .before .before .args .q)) (starts (c .before .before .before .before .before .before .args .s .now)) (c .before .before .before .loop .next) (c .before .before .before .before .before .before .args .t + 1) _ _ (c .next-finish2 .ensures) (finished (problem (c .before .before .before .before .before .before .args .l) (c .before .before .before .before .before .before .args .q)) (starts (c .before .before .before .before .before .before .args .s .now)) (c .before .before .before .loop .next) (c .before .before .before .loop .state) _ (c .before .before .before .loop .inv .0) (c .before .before .before .loop .inv .2) (c .before .after-finishes .ensures)))
@@ -46,11 +31,11 @@ facts-at-spec =
     (tie.spec
     Inv-loop
     μ-loop
-    add-till
-    next-finish-requires
+    (λ c. search needs)
+    (λ c κs. search needs)
     loop-holds
-    after-finishes-requires
-    next-finish-requires-2
-    loop-less
+    (λ c κs. search needs)
+    (λ c κs. search needs)
+    (λ c. omega (arith, c .next-finish2 .ensures .later))
     loop-again
     returns)

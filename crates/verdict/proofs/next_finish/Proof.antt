@@ -15,30 +15,6 @@ Inv-loop s from till l n best₀ i₀ best i = (i ≤ n) × (best ≤ till) × (
 abbrev μ-loop : tie.MeasureT-loop
 μ-loop s from till l n best₀ i₀ best i = n - i
 
-loop-holds : tie.Need-loop-holds Inv-loop μ-loop
-loop-holds c = (omega arith, omega arith, omega arith, λ k h. absurd (omega arith))
-
-mul-nearer : tie.Need-mul-nearer Inv-loop μ-loop
-mul-nearer c = search needs
-
-shared-slice-read-nearer : tie.Need-shared-slice-read-nearer Inv-loop μ-loop
-shared-slice-read-nearer c = search needs
-
-mul-nearer-2 : tie.Need-mul-nearer-2 Inv-loop μ-loop
-mul-nearer-2 c = search needs
-
-element-copy-out-nearer : tie.Need-element-copy-out-nearer Inv-loop μ-loop
-element-copy-out-nearer c = search needs
-
-nearer-requires : tie.Need-nearer-requires Inv-loop μ-loop
-nearer-requires c κs = search needs
-
-add-i : tie.Need-add-i Inv-loop μ-loop
-add-i c = search needs
-
-loop-less : tie.Need-loop-less Inv-loop μ-loop
-loop-less c = search needs
-
 loop-again : tie.Need-loop-again Inv-loop μ-loop
 loop-again c = (omega arith, omega (arith, c .nearer .ensures .least), c .nearer .ensures .later (c .before .before .before .before .loop .inv .2), below-more _ _ (λ k h x y z. c .before .before .before .before .loop .inv .3 k h x y (omega (arith, c .nearer .ensures .least))) (c .nearer .ensures .free))
 
@@ -52,13 +28,13 @@ next-finish-spec =
     (tie.spec
     Inv-loop
     μ-loop
-    loop-holds
-    mul-nearer
-    shared-slice-read-nearer
-    mul-nearer-2
-    element-copy-out-nearer
-    nearer-requires
-    add-i
-    loop-less
+    (λ c. (omega arith, omega arith, omega arith, λ k h. absurd (omega arith)))
+    (λ c. search needs)
+    (λ c. search needs)
+    (λ c. search needs)
+    (λ c. search needs)
+    (λ c κs. search needs)
+    (λ c. search needs)
+    (λ c. search needs)
     loop-again
     returns)

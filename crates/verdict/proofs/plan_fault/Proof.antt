@@ -3,17 +3,8 @@ use Rattle.verdict.proofs.Accepted.{refuses-table, bounds, refuses-boun
 use Rattle.verdict.proofs.plan_fault.Statement.{statement}
 use Rattle.verdict.proofs.plan_fault.Tie as tie
 
-too-short-requires : tie.Need-too-short-requires
-too-short-requires c κs = search needs
-
-call-fault-requires : tie.Need-call-fault-requires
-call-fault-requires c κs = search needs
-
 returns : tie.Need-returns
 returns c = refuses-table (c .before .before .before .before .before .args .short) (c .before .before .before .before .before .args .l) (c .before .before .before .before .before .args .q) (c .before .before .before .before .before .args .starts .now) (c .before .before .before .too-short .ensures) (c .before .before .call-fault .ensures) (c .if1 .taken)
-
-refuse-requires : tie.Need-refuse-requires
-refuse-requires c κs = search needs
 
 returns-2 : tie.Need-returns-2
 returns-2 c = refuses-bound (c .before .before .before .before .before .before .before .before .args .short) (c .before .before .before .before .before .before .before .before .args .l) (c .before .before .before .before .before .before .before .before .args .q) (c .before .before .before .before .before .before .before .before .args .starts .now) (c .before .before .before .before .before .before .too-short .ensures) (c .before .before .before .before .before .call-fault .ensures) (c .before .before .before .if1 .left) (c .before .if2 .taken) (c .refuse .ensures)
@@ -27,11 +18,4 @@ returns-3 c = judges-plan (c .before .before .before .before .before .before .be
 pub plan-fault-spec : {M : Type 1} → statement M
 plan-fault-spec =
     tie.close
-    (tie.spec
-    too-short-requires
-    call-fault-requires
-    returns
-    refuse-requires
-    returns-2
-    steps-fault-requires
-    returns-3)
+    (tie.spec (λ c κs. search needs) (λ c κs. search needs) returns (λ c κs. search needs) returns-2 steps-fault-requires returns-3)
