@@ -154,7 +154,7 @@ new-bit p j {s} {r} d = subst (λ (w : ℕ). T (has w j)) (sym (new-word d)) (bi
 pub old-word : {A : Search → Plan → Type 0} {p : Place} {x : ℕ} {s r : List ℕ} → Puts A p x s r → (q : Place) → at q ≢ at p → word r q ≡ word s q
 old-word {p = p} {x} {s} d q n = rw (d .sets .is) (getD-set-other s (at p) (at q) x 0 n)
 
--- what is so in every plan left may be said
+-- what is so in the plan left may be said
 pub said : {P : Search} {A : Search → Plan → Type 0} {p : Place} {x : ℕ} {s r : List ℕ} → Puts A p x s r → ((Q : Plan) → Left P (view s) Q → A P Q) → Keeps P (view s) (view r)
 said {P} d h = record { more = d .more; keep = λ Q l. d .fits P Q (l .fits) (h Q l) }
 
@@ -170,7 +170,13 @@ mute {s = s} = record { more = more-refl (view s); fits = λ P Q f a. f }
 pub says-as : {A B : Search → Plan → Type 0} {p : Place} {x : ℕ} {s r : List ℕ} → Puts B p x s r → ((P : Search) (Q : Plan) → Fits P Q (view s) → A P Q → B P Q) → Says A s r
 says-as d h = record { more = d .more; fits = λ P Q f a. d .fits P Q f (h P Q f a) }
 
--- the same of a rule that says what is told of every plan left
+pub says-under : {A B : Search → Plan → Type 0} {s r : List ℕ} → Says B s r → ((P : Search) (Q : Plan) → A P Q → B P Q) → Says A s r
+says-under d h = record { more = d .more; fits = λ P Q f a. d .fits P Q f (h P Q a) }
+
+pub says-then : {A : Search → Plan → Type 0} {s t r : List ℕ} → Says A s t → Says A t r → Says A s r
+says-then d e = record { more = more-trans (d .more) (e .more); fits = λ P Q f a. e .fits P Q (d .fits P Q f a) a }
+
+-- the same of a rule that says what is told of the plan left
 pub say : {Ok : Search → Type 0} {A : Search → Plan → Type 0} {s r : List ℕ} → Says A s r → ((P : Search) → InOrder (P .problem) → Ok P → (Q : Plan) → Left P (view s) Q → A P Q) → Prunes Ok s r
 say d h = record { more = d .more; keeps = λ P wf e. record { more = d .more; keep = λ Q l. d .fits P Q (l .fits) (h P wf e Q l) } }
 

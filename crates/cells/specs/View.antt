@@ -43,7 +43,7 @@ view s = record {
   hi = λ j. word s (his j);
 }
 
--- no less is said, and every plan of a problem of which Ok is so is kept
+-- no less is said, and the first plan of a problem of which Ok is so is kept
 pub record Prunes (Ok : Search → Type 0) (s r : List ℕ) : Type 0 where
   pub more : More (view s) (view r)
   pub keeps : (P : Search) → InOrder (P .problem) → Ok P → Keeps P (view s) (view r)

@@ -74,7 +74,7 @@ module _ {Ok : Search → Type 0} {s : List ℕ} {X : Type 0} where
 -- a job that is inside and that no plan has
 pub out : (s : List ℕ) (P : Search) (j : ℕ) → T (view s .inside j)
     → ((Q : Plan) → j < P .problem .count → view s .lo j ≤ Q j → Q j ≤ view s .hi j → Q j + P .problem .duration j ≤ P .bound → ⊥) → Dead P (view s)
-out s P j i h Q l = let k = l .fits .stays .inside j i in h Q (k .below) (l .fits .stays .lo j k) (l .fits .stays .hi j k) (l .good .inside j k)
+out s P j i h Q l = let k = l .fits .stays .inside j i in h Q (k .below) (l .fits .stays .lo j k) (l .fits .stays .hi j k) (l .first .ok .inside j k)
 
 -- ── the leaf ──
 

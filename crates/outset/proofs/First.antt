@@ -8,13 +8,14 @@ use lib.Dec.{T}
 use Rattle.facts.specs.Facts.{has}
 use Rattle.facts.proofs.Sets.{has-zero}
 use Rattle.rules.specs.Plans.{Plan}
-use Rattle.states.specs.State.{Search, St, Has, Good, Fits, Left}
+use Rattle.states.specs.State.{Search, Has, Good, Fits}
 use Rattle.cells.specs.View.{view, Blank}
 use Rattle.lent.specs.Lent.{Lent, stepOf, boundOf}
+use Rattle.outset.specs.Outset.{Planned}
 
--- a job of a plan left ends in the bound
-pub in-bound : {L : List ℕ} {P : Search} {Q : Plan} {s : St} {j step bound : ℕ} → j < 24 → Lent L P → Left P s Q → Has P Q j → step ≡ stepOf L j → bound ≡ boundOf L → Q j + step ≤ bound
-in-bound {j = j} h e l k s b = omega (arith, l .good .inside j k, e .listed .steps j h, e .listed .gap, e .bound)
+-- a job of a valid plan ends in the bound
+pub in-bound : {L : List ℕ} {P : Search} {Q : Plan} {j step bound : ℕ} → j < 24 → Planned L P Q → Has P Q j → step ≡ stepOf L j → bound ≡ boundOf L → Q j + step ≤ bound
+in-bound {j = j} h e k s b = omega (arith, e .1 .inside j k, e .0 .listed .steps j h, e .0 .listed .gap, e .0 .bound)
 
 pub blank-fits : {L : List ℕ} {P : Search} {Q : Plan} (s : List ℕ) → Lent L P → Blank s 24 → Good P Q → Fits P Q (view s)
 blank-fits s e b g = record {

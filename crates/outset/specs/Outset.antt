@@ -17,7 +17,7 @@ use Rattle.tables.specs.declared.Ask.{Ask}
 use Rattle.reach.specs.Rows.{FitIn}
 use Rattle.states.specs.State.{Search, Good, Fits}
 use Rattle.cells.specs.View.{view}
-use Rattle.lent.specs.Lent.{Cols, Listed}
+use Rattle.lent.specs.Lent.{Cols, Listed, Lent}
 use Rattle.outset.specs.declared.Outset.{Outset}
 
 -- ── words of jobs ──
@@ -70,6 +70,10 @@ AllWait rows words base est n = (j : ℕ) → j < n → Waits rows (getD words j
 -- every valid plan fits the state
 abbrev pub FitsAll : Search → List ℕ → Type 0
 FitsAll P s = (Q : Plan) → Good P Q → Fits P Q (view s)
+
+-- a valid plan of the problem that is listed
+abbrev pub Planned : List ℕ → Search → Plan → Type 0
+Planned L P Q = Lent L P × Good P Q
 
 -- what is searched for the table l: lists of a problem that has the same valid plans; no plan where the goals are not pairwise reachable
 pub record SetsOut (l : Loaded) (q : Ask) (r : Outset) : Type 0 where

@@ -4,9 +4,9 @@ ghost use Rattle.facts.specs.Facts.{Decides};
 ghost use Rattle.rules.specs.Table.{InOrder};
 ghost use Rattle.tables.specs.Tables.{problem};
 ghost use Rattle.states.specs.State.{Search};
-ghost use Rattle.cells.specs.View.{Prunes};
+ghost use Rattle.cells.specs.View.{Says};
 ghost use Rattle.lent.specs.Lent.{Cols, Lent};
-ghost use Rattle.outset.specs.Outset.{Among, Hit, Stands, Lists, Waits, AllWait, FitsAll, SetsOut};
+ghost use Rattle.outset.specs.Outset.{Among, Hit, Stands, Lists, Waits, AllWait, FitsAll, Planned, SetsOut};
 use cells::State;
 use lent::Tables;
 use reach::Pairs;
@@ -114,7 +114,7 @@ fn listed(l: Loaded, q: Ask, est: [u16; 24]) -> Tables
 // Job j from its estimate to the bound less its duration, or out.
 fn root_job(s: &mut State, j: usize, t: &Tables)
     requires { ⌜ j < 24 ⌝ }
-    ensures { λ _. ⌜ Prunes (Lent (now (t .entry))) (now (s .entry)) (now (s .exit)) ⌝ }
+    ensures { λ _. ⌜ Says (Planned (now (t .entry))) (now (s .entry)) (now (s .exit)) ⌝ }
 {
     if lent::count(t) <= j {
         cells::put_barred(s, j);

@@ -1,6 +1,7 @@
 -- Laws of the planner.
 -- Assumes nothing.
 use mathlib.Core.Path.{_≡_, refl, sym, subst, _∙_}
+use mathlib.Core.Logic.{_≢_}
 use mathlib.Core.Bool.{Bool, true, false, true≢false, false≢true}
 use mathlib.Core.List.{List}
 use Prim.Native.Nat.{ℕ, _+_, _≤_, _<_}
@@ -9,10 +10,10 @@ use native.Mathlib.Omega.{arith}
 use lib.Dec.{eqb, eqb→eq, T-not, not-T}
 use borrow.Author.Tests.{eq-eqb}
 use Rattle.rules.specs.Plans.{Plan, inPlan}
-use Rattle.states.specs.State.{Search, Has}
+use Rattle.states.specs.State.{Search, Has, Left}
 use Rattle.states.proofs.Keep.{more-trans, plans-back}
 use Rattle.states.proofs.Firsts as firsts
-use Rattle.cells.specs.View.{ins, outs, los, his, view, Puts, PutsBit, IsIn, IsOut, From, Till}
+use Rattle.cells.specs.View.{ins, outs, los, his, view, Prunes, Puts, PutsBit, IsIn, IsOut, From, Till}
 use Rattle.cells.proofs.Changes.{new-bit, new-word, old-word}
 use Rattle.lent.specs.Lent.{Lent, countOf}
 use Rattle.orders.specs.Order.{Tills}
@@ -22,23 +23,24 @@ use Rattle.planner.specs.Planner.{Begins, Tells, Lacks, Earlier, Lowered
 
 -- ── one question ──
 
+-- the base itself says that there is none
+pub tells-none : {L base : List ℕ} {X : Search → Plan → Type 0} {old : List ℕ} → ((P : Search) → Lent L P → (Q : Plan) → Left P (view base) Q → X P Q → ⊥) → Tells (Lent L) base X old old false
+tells-none n = record {
+  plan = λ e. absurd (false≢true e);
+  fine = λ e. absurd (false≢true e);
+  size = λ e. absurd (false≢true e);
+  none = λ e. n;
+  same = λ e. refl;
+}
+
 module _ {L base : List ℕ} {k : ℕ} where
   pub without-is : {t old new : List ℕ} {r : Bool} → PutsBit (IsOut k) outs k base t → Answers (Lent L) t old new r → Tells (Lent L) base (Lacks k) old new r
   without-is d a = record {
     plan = λ e P l. plans-back (d .more) (a .plan e P l);
     fine = λ e P l. a .plan e P l .stays .barred k (new-bit outs k d);
     size = a .size;
-    none = λ e P l Q v n. a .none e P l Q (record { good = v .good; fits = d .fits P Q (v .fits) n });
+    none = λ e P l Q v n. a .none e P l Q (record { first = v .first; fits = d .fits P Q (v .fits) n });
     same = a .same;
-  }
-
-  pub sooner-zero : {t : ℕ} {old : List ℕ} → t ≡ 0 → Tells (Lent L) base (Earlier k t) old old false
-  sooner-zero z = record {
-    plan = λ e. absurd (false≢true e);
-    fine = λ e. absurd (false≢true e);
-    size = λ e. absurd (false≢true e);
-    none = λ e P l Q v h. omega (arith, h .1);
-    same = λ e. refl;
   }
 
   pub sooner-is : {t x : ℕ} {u w old new : List ℕ} {r : Bool} → PutsBit (IsIn k) ins k base u → Tills u k x w → x + 1 ≡ t → Answers (Lent L) w old new r → Tells (Lent L) base (Earlier k t) old new r
@@ -49,7 +51,7 @@ module _ {L base : List ℕ} {k : ℕ} where
         plan = λ e P l. plans-back m (a .plan e P l);
         fine = λ e P l. (let y = a .plan e P l .stays in let j = y .inside k i in (j, omega (arith, y .hi k j, h .within)));
         size = a .size;
-        none = λ e P l Q v n. a .none e P l Q (record { good = v .good; fits = h .says .fits P Q (d .fits P Q (v .fits) (n .0)) (λ j. omega (arith, n .1)) });
+        none = λ e P l Q v n. a .none e P l Q (record { first = v .first; fits = h .says .fits P Q (d .fits P Q (v .fits) (n .0)) (λ j. omega (arith, n .1)) });
         same = a .same;
       }
 
@@ -88,20 +90,26 @@ module _ {L base : List ℕ} {k : ℕ} where
   pub low-done : {q new : List ℕ} {r : Bool} → LowerOk (Lent L) base k q → Tells (Lent L) base (Earlier k (planOf q k)) q new r → r ≡ false → Lowered (Lent L) base k new
   low-done {q} {new} b d e = subst (λ (z : List ℕ). Lowered (Lent L) base k z) (sym (d .same e)) (record { begins = b .begins; there = b .there; least = λ P l Q v h. d .none e P l Q v h })
 
-  -- no plan does without a job that the plan has: it is to start early
-  pub lower-ok : {q new : List ℕ} {r : Bool} → k < countOf L → (planOf q k ≡ 65535 → ⊥) → Begins (Lent L) k base q → Tells (Lent L) base (Lacks k) q new r → r ≡ false → LowerOk (Lent L) base k new
-  lower-ok {q} l n b d e = subst (λ (z : List ℕ). LowerOk (Lent L) base k z) (sym (d .same e)) (record { begins = b; there = λ P o. in-of k q n P (omega (arith, o .listed .count)) })
+  -- the pruned base takes the base's place
+  pub begins-pruned : {q r : List ℕ} → Begins (Lent L) k base q → Prunes (Lent L) base r → Begins (Lent L) k r q
+  begins-pruned {q} {r} b d = record {
+    prefix = λ P o. firsts.pruned P (o .listed .wf) k (view base) (planOf q) (b .prefix P o) (view r) (d .keeps P (o .listed .wf) o);
+    size = b .size;
+  }
 
-  -- the window of a job that the plan has holds its start
-  pub in-window : {q : List ℕ} → Some (Lent L) → Lowered (Lent L) base k q → (view base .lo k ≤ planOf q k) × (planOf q k ≤ view base .hi k)
-  in-window {q} (P, o) g =
-      let pre = g .begins .prefix P o in
-      let st = pre .all (planOf q) (pre .good) (λ j h. refl) .stays in
-      (st .lo k (g .there P o), st .hi k (g .there P o))
+  -- no plan does without a job that the plan has: it is to start early
+  pub lower-ok : {q new : List ℕ} {r : Bool} {x : ℕ} → k < countOf L → x ≡ planOf q k → x ≢ 65535 → Begins (Lent L) k base q → Tells (Lent L) base (Lacks k) q new r → r ≡ false → LowerOk (Lent L) base k new
+  lower-ok {q} l z n b d e = subst (λ (z : List ℕ). LowerOk (Lent L) base k z) (sym (d .same e)) (record { begins = b; there = λ P o. in-of k q (λ y. n (z ∙ y)) P (omega (arith, o .listed .count)) })
+
+  -- the window of a job that is as early as it can be holds its start
+  pub in-window : {q old new : List ℕ} {r : Bool} → k < countOf L → Some (Lent L) → Lowered (Lent L) base k q → Tells (Lent L) base (Lacks k) old new r → r ≡ false → (view base .lo k ≤ planOf q k) × (planOf q k ≤ view base .hi k)
+  in-window {q} l (P, o) g z e =
+      firsts.window P (o .listed .wf) k (view base) (planOf q) (g .begins .prefix P o) (omega (arith, o .listed .count)) (g .there P o)
+      (λ F h y. z .none e P o F h y) (λ F h y s. g .least P o F h (y, s))
 
   pub step-out : {q t : List ℕ} → k < countOf L → Begins (Lent L) k base q → ((P : Search) → Lent L P → Has P (planOf q) k → ⊥) → PutsBit (IsOut k) outs k base t → Begins (Lent L) (k + 1) t q
   step-out {q} {t} l b m d = record {
-    prefix = λ P o. rw add-one (firsts.leave P (o .listed .wf) k (view base) (planOf q) (b .prefix P o) (omega (arith, o .listed .count)) (view t) (d .more) (m P o) (new-bit outs k d) (λ Q g f x. d .fits P Q f x));
+    prefix = λ P o. rw add-one (firsts.leave P (o .listed .wf) k (view base) (planOf q) (b .prefix P o) (omega (arith, o .listed .count)) (view t) (d .more) (m P o) (new-bit outs k d) (λ F f n. d .fits P F f n));
     size = b .size;
   }
 
@@ -110,10 +118,9 @@ module _ {L base : List ℕ} {k : ℕ} where
 
   pub step-in : {q old new t : List ℕ} {r : Bool} (v : ℕ) → k < countOf L → Lowered (Lent L) base k q → Tells (Lent L) base (Lacks k) old new r → r ≡ false → Fixed base k v t → planOf q k ≡ v → Begins (Lent L) (k + 1) t q
   step-in {q} {t = t} v l g z e d m = record {
-    prefix = λ P o. rw add-one (firsts.fix P (o .listed .wf) k (view base) (planOf q) (g .begins .prefix P o) (omega (arith, o .listed .count)) (view t) (d .more) (g .there P o)
-        (d .inside) (d .lo ∙ sym m) (d .hi ∙ sym m)
-        (λ Q h f j y. d .keep P Q f j (y ∙ m))
-        (λ Q h y. z .none e P o Q h y) (λ Q h y s. g .least P o Q h (y, s)));
+    prefix = λ P o. rw add-one (firsts.fix P (o .listed .wf) k (view base) (planOf q) (g .begins .prefix P o) (omega (arith, o .listed .count)) (g .there P o)
+        (λ F h y. z .none e P o F h y) (λ F h y s. g .least P o F h (y, s))
+        (view t) (d .more) (d .inside) (d .lo ∙ sym m) (d .hi ∙ sym m) (λ F f j y. d .keep P F f j (y ∙ m)));
     size = g .begins .size;
   }
 
@@ -124,7 +131,7 @@ module _ {L root : List ℕ} (fr : RootOk (Lent L) root) {old new : List ℕ} {r
   first-begin e = record { prefix = λ P o. firsts.begin P (o .listed .wf) (view root) (planOf new) (a .plan e P o .good) (fr P o); size = a .size e }
 
   pub first-none : r ≡ false → FirstOf (Lent L) new false
-  first-none e = record { plan = λ x. absurd (false≢true x); size = λ x. absurd (false≢true x); none = λ x P o Q g. a .none e P o Q (record { good = g; fits = fr P o Q g }) }
+  first-none e = record { plan = λ x. absurd (false≢true x); size = λ x. absurd (false≢true x); none = λ x P o. firsts.dead-none P (view root) (fr P o) (a .none e P o) }
 
 pub first-done : {L base q : List ℕ} {n : ℕ} → n ≡ countOf L → Begins (Lent L) n base q → FirstOf (Lent L) q true
 first-done {base = base} {q} z b = record {

@@ -8,7 +8,7 @@ use lib.Dec.{T}
 use lib.ListN.{length}
 use Rattle.rules.specs.Plans.{Plan}
 use Rattle.rules.specs.Order.{First}
-use Rattle.states.specs.State.{Search, Has, Good, Fits, Left, More, Plans}
+use Rattle.states.specs.State.{Search, Has, Good, Best, Fits, Left, More, Plans}
 use Rattle.states.proofs.Firsts.{Prefix}
 use Rattle.cells.specs.View.{view}
 use Rattle.leaves.specs.Leaf.{planOf}
@@ -55,9 +55,9 @@ pub record Fixed (s : List ℕ) (k x : ℕ) (r : List ℕ) : Type 0 where
   pub hi : view r .hi k ≡ x
   pub keep : (P : Search) (Q : Plan) → Fits P Q (view s) → Has P Q k → Q k ≡ x → Fits P Q (view r)
 
--- every valid plan fits the state
+-- the first plan fits the state
 abbrev pub RootOk : (Search → Type 0) → List ℕ → Type 0
-RootOk Ok root = (P : Search) → Ok P → (Q : Plan) → Good P Q → Fits P Q (view root)
+RootOk Ok root = (P : Search) → Ok P → (F : Plan) → Best P F → Fits P F (view root)
 
 -- the first valid plan, or that there is none
 pub record FirstOf (Ok : Search → Type 0) (starts : List ℕ) (found : Bool) : Type 0 where

@@ -1,8 +1,9 @@
 // The first plan, job by job.
 ghost use mathlib.Core.Path.{_≡_};
+ghost use mathlib.Core.Bool.{true};
 ghost use Prim.Native.Nat.{_+_, _≤_, _<_};
 ghost use lib.ListN.{length};
-ghost use Rattle.cells.specs.View.{view};
+ghost use Rattle.cells.specs.View.{view, Prunes};
 ghost use Rattle.lent.specs.Lent.{Lent, countOf};
 ghost use Rattle.leaves.specs.Leaf.{planOf};
 ghost use Rattle.search.specs.Search.{Some};
@@ -18,28 +19,31 @@ fn start_of(out: &[u16; 24], k: usize) -> u16
     out[k]
 }
 
-// A plan without job k.
+// A plan without job k; none where it is known to be in.
 fn try_without(base: &State, k: usize, t: &Tables, out: &mut [u16; 24]) -> bool
     requires { ⌜ (k < 24) × Some (Lent (now t)) ⌝ }
     ensures { λ r. ⌜ Tells (Lent (now (t .entry))) (now (base .entry)) (Lacks k) (now (out .entry)) (now (out .exit)) r ⌝ }
 {
+    if cells::inside(base, k) {
+        return false;
+    }
     let mut s = *base;
     cells::put_barred(&mut s, k);
     search::find_plan(&mut s, t, out)
 }
 
-// A plan with job k sooner than it is.
+// A plan with job k sooner than it is; none where it is as early as it can be.
 fn try_sooner(base: &State, k: usize, t: &Tables, out: &mut [u16; 24]) -> bool
     requires { ⌜ (k < 24) × (length (now out) ≡ 24) × Some (Lent (now t)) ⌝ }
     ensures { λ r. ⌜ Tells (Lent (now (t .entry))) (now (base .entry)) (Earlier k (planOf (now (out .entry)) k)) (now (out .entry)) (now (out .exit)) r ⌝ }
 {
-    let x = start_of(out, k);
-    if x == 0 {
+    let x = start_of(out, k) as u32;
+    if x <= cells::lo(base, k) {
         return false;
     }
     let mut s = *base;
     cells::put_inside(&mut s, k);
-    orders::till(&mut s, k, (x as u32) - 1);
+    orders::till(&mut s, k, x - 1);
     search::find_plan(&mut s, t, out)
 }
 
@@ -65,15 +69,28 @@ fn fix(base: &mut State, k: usize, x: u32)
     cells::put_hi(base, k, x);
 }
 
+// The base pruned, where it does not say yet that job k is in and no sooner than x.
+fn sharpen(base: &mut State, k: usize, t: &Tables, x: u32)
+    requires { ⌜ k < 24 ⌝ }
+    ensures { λ _. ⌜ Prunes (Lent (now (t .entry))) (now (base .entry)) (now (base .exit)) ⌝ }
+{
+    if cells::inside(base, k) && x <= cells::lo(base, k) {
+        return;
+    }
+    search::pruned(base, t);
+}
+
 // Job k is settled.
 fn settle_job(base: &mut State, k: usize, t: &Tables, out: &mut [u16; 24])
     requires { ⌜ Begins (Lent (now t)) k (now base) (now out) × (k < 24) × (k < countOf (now t)) × Some (Lent (now t)) ⌝ }
     ensures { λ _. ⌜ Begins (Lent (now (t .entry))) (k + 1) (now (base .exit)) (now (out .exit)) ⌝ }
 {
-    if start_of(out, k) == 65535 {
+    let x = start_of(out, k);
+    if x == 65535 {
         cells::put_barred(base, k);
         return;
     }
+    sharpen(base, k, t, x as u32);
     if try_without(base, k, t, out) {
         cells::put_barred(base, k);
         return;
@@ -82,7 +99,18 @@ fn settle_job(base: &mut State, k: usize, t: &Tables, out: &mut [u16; 24])
     fix(base, k, start_of(out, k) as u32);
 }
 
-// The first plan, from a state that every valid plan fits.
+// The first plan, from a state that it fits and some plan.
+fn first_from(root: &mut State, t: &Tables, out: &mut [u16; 24])
+    requires { ⌜ Begins (Lent (now t)) 0 (now root) (now out) × Some (Lent (now t)) ⌝ }
+    ensures { λ _. ⌜ FirstOf (Lent (now (t .entry))) (now (out .exit)) true ⌝ }
+{
+    let n = lent::count(t);
+    for k in 0..n {
+        settle_job(root, k, t, out);
+    }
+}
+
+// The first plan, from a state that it fits.
 pub fn first(root: &mut State, t: &Tables, out: &mut [u16; 24]) -> bool
     requires { ⌜ RootOk (Lent (now t)) (now root) × Some (Lent (now t)) ⌝ }
     ensures { λ r. ⌜ FirstOf (Lent (now (t .entry))) (now (out .exit)) r ⌝ }
@@ -91,9 +119,6 @@ pub fn first(root: &mut State, t: &Tables, out: &mut [u16; 24]) -> bool
     if !search::find_plan(&mut s, t, out) {
         return false;
     }
-    let n = lent::count(t);
-    for k in 0..n {
-        settle_job(root, k, t, out);
-    }
+    first_from(root, t, out);
     true
 }

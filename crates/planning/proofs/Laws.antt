@@ -21,7 +21,8 @@ use Rattle.tables.specs.Tables.{problem}
 use Rattle.tables.specs.declared.Loaded.{Loaded}
 use Rattle.tables.specs.declared.Ask.{Ask}
 use Rattle.states.specs.State.{Search}
-use Rattle.cells.specs.View.{Sets}
+use Rattle.states.proofs.Firsts.{dead-none}
+use Rattle.cells.specs.View.{view, Sets}
 use Rattle.lent.specs.Lent.{Listed, Lent}
 use Rattle.lent.proofs.Laws.{rebound, rebound-lent}
 use Rattle.leaves.specs.Leaf.{planOf, Answers}
@@ -52,12 +53,12 @@ module _ {L K : List ℕ} {bound x : ℕ} (d : Sets L 227 x K) (z : x ≡ bound)
   }
 
   pub plans-any : {first : Bool} {s old starts : List ℕ} {r : Bool} → first ≡ false → ((P : Search) → Lent K P → FitsAll P s) → Answers (Lent K) s old starts r → PlansAt L bound first K starts r
-  plans-any n f a = record {
+  plans-any {s = s} n f a = record {
     each = λ P t. record {
       valid = λ e. a .plan e _ (lent-at P t) .good;
       least = λ e h. absurd (true≢false (sym h ∙ n));
       size = a .size;
-      none = λ e s g. a .none e _ (lent-at P t) s (record { good = g; fits = f _ (lent-at P t) s g });
+      none = λ e. dead-none _ (view s) (λ F b. f _ (lent-at P t) F (b .ok)) (a .none e _ (lent-at P t));
     };
     kept = rebound d;
   }

@@ -26,7 +26,7 @@ pub record Lost (s : List ℕ) (b : ℕ) (P : Search) : Type 0 where
 abbrev pub Killers : Search → (p w : ℕ) → Type 0
 Killers P p w = (d : ℕ) → T (has w d) → deletes (P .problem) d p
 
--- the consumer b is there, the job a is its support for a fact in every plan left, and the jobs of `kills` delete the fact
+-- the consumer b is there, the job a is its support for a fact in the plan left, and the jobs of `kills` delete the fact
 pub record Spared (s : List ℕ) (b a kills : ℕ) (P : Search) : Type 0 where
   pub p : ℕ
   pub here : T (there (view s) (who b))

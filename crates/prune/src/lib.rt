@@ -29,7 +29,7 @@ fn none_left(s: &mut State, b: usize)
     cells::put_barred(s, b);
 }
 
-// Job a is the support of b in every plan left; d is another job that deletes its fact.
+// Job a is the support of b in the plan left; d is another job that deletes its fact.
 fn spare(s: &mut State, b: usize, a: usize, d: usize)
     requires { ⌜ (b ≤ 24) × (a < 24) ⌝ }
     ensures { λ _. ⌜ ((kills : ℕ) → T (has kills d) → Prunes (Spared (now (s .entry)) b a kills) (now (s .entry)) (now (s .exit))) ⌝ }

@@ -114,8 +114,8 @@ module _ {L : List ℕ} where
       plan = λ x P l. plans-back (e .more) (second .plan x P l);
       size = second .size;
       none = λ x P l Q v. ⊎-elim
-          (λ y. first .none h P l Q (record { good = v .good; fits = d .keep P Q (v .fits) y }))
-          (λ y. second .none x P l Q (record { good = v .good; fits = e .keep P Q (v .fits) y }))
+          (λ y. first .none h P l Q (record { first = v .first; fits = d .keep P Q (v .fits) y }))
+          (λ y. second .none x P l Q (record { first = v .first; fits = e .keep P Q (v .fits) y }))
           (repair-cases c P l Q);
       same = λ x. second .same x ∙ first .same h;
     }

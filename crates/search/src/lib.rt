@@ -29,8 +29,8 @@ fn dropped(s: &mut State, c: Choice)
     cells::put_never(s, c.x, c.y);
 }
 
-// The state pruned and settled, no plan lost; false where none is left. Called in three places, so that it is not taken into the recursion.
-fn pruned(s: &mut State, t: &Tables) -> bool
+// The state pruned and settled, the first plan kept; false where it is not left. Called in several places, so that it is not taken into the recursion.
+pub fn pruned(s: &mut State, t: &Tables) -> bool
     ensures { λ r. ⌜ SettledBy (now (t .entry)) (now (s .entry)) (now (s .exit)) r ⌝ }
 {
     prune::tighten(s, t);

@@ -4,7 +4,7 @@ use Rattle.planning.proofs.plan_at.Statement.{statement}
 use Rattle.planning.proofs.plan_at.Tie as tie
 
 first-requires : tie.Need-first-requires
-first-requires c κs = (c .before .before .before .before .root .ensures, some-lent (c .before .before .before .before .before .before .put-bound .ensures) (c .before .before .before .before .before .before .before .wide .ensures .0) (c .before .before .before .before .before .before .before .before .before .pre))
+first-requires c κs = ((λ P l F b. c .before .before .before .before .root .ensures P l F (b .ok)), some-lent (c .before .before .before .before .before .before .put-bound .ensures) (c .before .before .before .before .before .before .before .wide .ensures .0) (c .before .before .before .before .before .before .before .before .before .pre))
 
 returns : tie.Need-returns
 returns c = plans-first (c .before .before .before .before .before .before .before .put-bound .ensures) (c .before .before .before .before .before .before .before .before .wide .ensures .0) (c .before .before .before .before .before .before .before .before .before .before .pre) (c .first .ensures)
