@@ -2,7 +2,7 @@
 -- Assumes nothing.
 use mathlib.Core.Path.{_≡_, refl, sym, subst, _∙_}
 use mathlib.Core.Logic.{_≢_}
-use mathlib.Core.Bool.{Bool, true, false, true≢false, false≢true}
+use mathlib.Core.Bool.{Bool, true, false, false≢true}
 use mathlib.Core.List.{List}
 use Prim.Native.Nat.{ℕ, _+_, _≤_, _<_}
 use native.Mathlib.Numerals.{add-one}
@@ -19,7 +19,7 @@ use Rattle.lent.specs.Lent.{Lent, countOf}
 use Rattle.orders.specs.Order.{Tills}
 use Rattle.leaves.specs.Leaf.{planOf, Answers}
 use Rattle.search.specs.Search.{Some}
-use Rattle.planner.specs.Planner.{Begins, Tells, Lacks, Earlier, Lowered, LowerOk, Fixed, RootOk, FirstOf}
+use Rattle.planner.specs.Planner.{Begins, Tells, Lacks, Earlier, Lowered, LowerOk, Fixed, FirstOf}
 
 -- ── one question ──
 
@@ -126,16 +126,8 @@ module _ {L base : List ℕ} {k : ℕ} where
 
 -- ── the whole ──
 
-module _ {L root : List ℕ} (fr : RootOk (Lent L) root) {old new : List ℕ} {r : Bool} (a : Answers (Lent L) root old new r) where
-  pub first-begin : r ≡ true → Begins (Lent L) 0 root new
-  first-begin e = record { prefix = λ P o. firsts.begin P (o .listed .wf) (view root) (planOf new) (a .plan e P o .good) (fr P o); size = a .size e }
-
-  pub first-none : r ≡ false → FirstOf (Lent L) new false
-  first-none e = record { plan = λ x. absurd (false≢true x); size = λ x. absurd (false≢true x); none = λ x P o. firsts.dead-none P (view root) (fr P o) (a .none e P o) }
-
-pub first-done : {L base q : List ℕ} {n : ℕ} → n ≡ countOf L → Begins (Lent L) n base q → FirstOf (Lent L) q true
+pub first-done : {L base q : List ℕ} {n : ℕ} → n ≡ countOf L → Begins (Lent L) n base q → FirstOf (Lent L) q
 first-done {base = base} {q} z b = record {
-  plan = λ x P o. firsts.finished P (o .listed .wf) (view base) (planOf q) (subst (λ (y : ℕ). firsts.Prefix P y (view base) (planOf q)) (z ∙ sym (o .listed .count)) (b .prefix P o));
-  size = λ x. b .size;
-  none = λ x. absurd (true≢false x);
+  plan = λ P o. firsts.finished P (o .listed .wf) (view base) (planOf q) (subst (λ (y : ℕ). firsts.Prefix P y (view base) (planOf q)) (z ∙ sym (o .listed .count)) (b .prefix P o));
+  size = b .size;
 }

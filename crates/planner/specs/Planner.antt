@@ -8,7 +8,7 @@ use lib.Dec.{T}
 use lib.ListN.{length}
 use Rattle.rules.specs.Plans.{Plan}
 use Rattle.rules.specs.Order.{First}
-use Rattle.states.specs.State.{Search, Has, Good, Best, Fits, Left, More, Plans}
+use Rattle.states.specs.State.{Search, Has, Fits, Left, More, Plans}
 use Rattle.states.proofs.Firsts.{Prefix}
 use Rattle.cells.specs.View.{view}
 use Rattle.leaves.specs.Leaf.{planOf}
@@ -55,12 +55,7 @@ pub record Fixed (s : List ℕ) (k x : ℕ) (r : List ℕ) : Type 0 where
   pub hi : view r .hi k ≡ x
   pub keep : (P : Search) (Q : Plan) → Fits P Q (view s) → Has P Q k → Q k ≡ x → Fits P Q (view r)
 
--- the first plan fits the state
-abbrev pub RootOk : (Search → Type 0) → List ℕ → Type 0
-RootOk Ok root = (P : Search) → Ok P → (F : Plan) → Best P F → Fits P F (view root)
-
--- the first valid plan, or that there is none
-pub record FirstOf (Ok : Search → Type 0) (starts : List ℕ) (found : Bool) : Type 0 where
-  pub plan : found ≡ true → (P : Search) → Ok P → First (P .problem) (P .bound) (planOf starts)
-  pub size : found ≡ true → length starts ≡ 24
-  pub none : found ≡ false → (P : Search) → Ok P → (Q : Plan) → Good P Q → ⊥
+-- the starts are the first plan
+pub record FirstOf (Ok : Search → Type 0) (starts : List ℕ) : Type 0 where
+  pub plan : (P : Search) → Ok P → First (P .problem) (P .bound) (planOf starts)
+  pub size : length starts ≡ 24

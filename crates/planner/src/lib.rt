@@ -1,13 +1,12 @@
 // The first plan, job by job.
 ghost use mathlib.Core.Path.{_≡_};
-ghost use mathlib.Core.Bool.{true};
 ghost use Prim.Native.Nat.{_+_, _≤_, _<_};
 ghost use lib.ListN.{length};
 ghost use Rattle.cells.specs.View.{view, Prunes};
 ghost use Rattle.lent.specs.Lent.{Lent, countOf};
 ghost use Rattle.leaves.specs.Leaf.{planOf};
 ghost use Rattle.search.specs.Search.{Some};
-ghost use Rattle.planner.specs.Planner.{Begins, Tells, Lacks, Earlier, Lowered, LowerOk, Fixed, RootOk, FirstOf};
+ghost use Rattle.planner.specs.Planner.{Begins, Tells, Lacks, Earlier, Lowered, LowerOk, Fixed, FirstOf};
 use cells::State;
 use lent::Tables;
 
@@ -100,25 +99,12 @@ fn settle_job(base: &mut State, k: usize, t: &Tables, out: &mut [u16; 24])
 }
 
 // The first plan, from a state that it fits and some plan.
-fn first_from(root: &mut State, t: &Tables, out: &mut [u16; 24])
+pub fn first(root: &mut State, t: &Tables, out: &mut [u16; 24])
     requires { ⌜ Begins (Lent (now t)) 0 (now root) (now out) × Some (Lent (now t)) ⌝ }
-    ensures { λ _. ⌜ FirstOf (Lent (now (t .entry))) (now (out .exit)) true ⌝ }
+    ensures { λ _. ⌜ FirstOf (Lent (now (t .entry))) (now (out .exit)) ⌝ }
 {
     let n = lent::count(t);
     for k in 0..n {
         settle_job(root, k, t, out);
     }
-}
-
-// The first plan, from a state that it fits.
-pub fn first(root: &mut State, t: &Tables, out: &mut [u16; 24]) -> bool
-    requires { ⌜ RootOk (Lent (now t)) (now root) × Some (Lent (now t)) ⌝ }
-    ensures { λ r. ⌜ FirstOf (Lent (now (t .entry))) (now (out .exit)) r ⌝ }
-{
-    let mut s = *root;
-    if !search::find_plan(&mut s, t, out) {
-        return false;
-    }
-    first_from(root, t, out);
-    true
 }

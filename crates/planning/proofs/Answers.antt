@@ -126,11 +126,11 @@ module _ (l : Loaded) (q : Ask) (xs : List ℕ) where
         leaves = sym (ap (λ (v : Verdict). changed v (filled (λ i. 0) (q .jobs) xs) xs) (goes z (refused 10 0)));
       }
 
-      pub plans-found : {r : Answer} (t : ℕ) {st ys : List ℕ} {found : Bool} → t ≡ top l q → r ≡ answer accepted 0 0 → ys ≡ filled (entry st) (q .jobs) xs → PlanAt (problem l q) t true st found → found ≡ true → PlansWithin l q xs r ys
+      pub plans-found : {r : Answer} (t : ℕ) {st ys : List ℕ} {found : Bool} → t ≡ top l q → r ≡ answer accepted 0 0 → ys ≡ filled (entry st) (q .jobs) xs → PlanAt (problem l q) t st found → found ≡ true → PlansWithin l q xs r ys
       plans-found {r} t {st} {ys} h e w d y = record {
         v = accepted;
         s = planOf st;
-        planned = λ k. inl (refl, first-up l q (j .order z .order) (j .order z .short) (planOf st) (subst (λ (b : ℕ). First (problem l q) b (planOf st)) h (d .least y refl)));
+        planned = λ k. inl (refl, first-up l q (j .order z .order) (j .order z .short) (planOf st) (subst (λ (b : ℕ). First (problem l q) b (planOf st)) h (d .first y)));
         says = e ∙ said 0 0 (goes z accepted);
         leaves = starts-filled st ys (d .size y) (j .order z .few) w ∙ sym (ap (λ (v : Verdict). changed v (filled (planOf st) (q .jobs) xs) xs) (goes z accepted));
       }

@@ -1,7 +1,7 @@
 -- Laws of planning at several bounds.
 -- Assumes nothing.
 use mathlib.Core.Path.{_≡_, refl, sym, ap, subst, _∙_}
-use mathlib.Core.Logic.{inl, inr, ⊎-elim}
+use mathlib.Core.Logic.{⊎-elim}
 use mathlib.Core.Bool.{Bool, true, false, not, true≢false}
 use mathlib.Core.List.{List}
 use Prim.Native.Nat.{ℕ, _+_, _≤_, _<_}
@@ -9,6 +9,7 @@ use native.Mathlib.Nat.{le-refl}
 use native.Mathlib.Omega.{arith}
 use native.Mathlib.Numerals.{add-one}
 use native.Mathlib.Decide.{decLt}
+use borrow.Author.Tests.{not-true}
 use lib.Dec.{T, eqb}
 use Rattle.facts.proofs.Bools.{below-suc, eqb-not, not-eqb}
 use Rattle.rules.specs.Table.{Problem, InOrder}
@@ -20,17 +21,23 @@ use Rattle.rules.proofs.Enough.{narrower}
 use Rattle.tables.specs.Tables.{problem}
 use Rattle.tables.specs.declared.Loaded.{Loaded}
 use Rattle.tables.specs.declared.Ask.{Ask}
-use Rattle.states.specs.State.{Search}
+use Rattle.states.specs.State.{Search, Dead}
+use Rattle.states.proofs.Keep.{keeps-dead}
+use Rattle.states.proofs.Firsts as firsts
 use Rattle.states.proofs.Firsts.{dead-none}
 use Rattle.cells.specs.View.{view, Sets}
 use Rattle.lent.specs.Lent.{Listed, Lent}
-use Rattle.lent.proofs.Laws.{rebound, rebound-lent}
-use Rattle.leaves.specs.Leaf.{planOf, Answers}
+use Rattle.lent.proofs.Laws.{rebound-to, rebound-back, rebound-lent}
+use Rattle.leaves.specs.Leaf.{planOf, SettledBy, Answers}
 use Rattle.search.specs.Search.{Some}
-use Rattle.planner.specs.Planner.{FirstOf}
+use Rattle.planner.specs.Planner.{Begins, FirstOf}
 use Rattle.outset.specs.Outset.{FitsAll, SetsOut}
 use Rattle.outset.specs.declared.Outset.{Outset}
-use Rattle.planning.specs.Derived.{PlanAt, Served, PlansAt, Later, LastEnd, Between, Spans, Halves, Narrows, LeastOf}
+use Rattle.planning.specs.Derived.{PlanAt, Served, Kept, NoneBelow, SomeAt, AnyAt, FirstAt, Hopeless, Later, LastEnd, Probes, Held, Halves, LeastOf}
+
+-- where there is no plan within mid there is none within less
+pub none-below : (P : Problem) (mid : ℕ) → NoPlan P mid → (c : ℕ) → c < mid + 1 → NoPlan P c
+none-below P mid n c l z v = n z (wider P c mid z (omega arith) v)
 
 -- ── one bound ──
 
@@ -41,31 +48,69 @@ module _ {L K : List ℕ} {bound x : ℕ} (d : Sets L 227 x K) (z : x ≡ bound)
   pub some-lent : Some (Lent K)
   some-lent = (record { problem = v .served; bound = bound }, lent-at (v .served) (v .listed))
 
-  pub plans-first : {first : Bool} {starts : List ℕ} {r : Bool} → FirstOf (Lent K) starts r → PlansAt L bound first K starts r
-  plans-first a = record {
-    each = λ P t. record {
-      valid = λ e. a .plan e _ (lent-at P t) .ok;
-      least = λ e h. a .plan e _ (lent-at P t);
-      size = a .size;
-      none = λ e s g. a .none e _ (lent-at P t) s g;
-    };
-    kept = rebound d;
-  }
+  kept-at : Kept L K
+  kept-at = record { to = rebound-to d; back = rebound-back d }
 
-  pub plans-any : {first : Bool} {s old starts : List ℕ} {r : Bool} → first ≡ false → ((P : Search) → Lent K P → FitsAll P s) → Answers (Lent K) s old starts r → PlansAt L bound first K starts r
-  plans-any {s = s} n f a = record {
-    each = λ P t. record {
-      valid = λ e. a .plan e _ (lent-at P t) .good;
-      least = λ e h. absurd (true≢false (sym h ∙ n));
-      size = a .size;
-      none = λ e. dead-none _ (view s) (λ F b. f _ (lent-at P t) F (b .ok)) (a .none e _ (lent-at P t));
-    };
-    kept = rebound d;
-  }
+  module _ (s : List ℕ) (f : (P : Search) → Lent K P → FitsAll P s) where
+    none-at : ((P : Search) → Lent K P → Dead P (view s)) → NoneBelow L (bound + 1)
+    none-at n P t = none-below P bound (dead-none _ (view s) (λ F b. f _ (lent-at P t) F (b .ok)) (n _ (lent-at P t)))
+
+    pub any-at : {old new : List ℕ} {r : Bool} → Answers (Lent K) s old new r → AnyAt L bound old K new r
+    any-at a = record {
+      some = λ e. record { valid = λ P t. a .plan e _ (lent-at P t) .good; size = a .size e };
+      none = λ e. none-at (λ P l. a .none e P l);
+      same = a .same;
+      kept = kept-at;
+    }
+
+    pub hopeless-at : {r : List ℕ} {ok : Bool} → SettledBy K s r ok → Hopeless L bound K (not ok)
+    hopeless-at {ok = ok} a = record { none = λ e. none-at (λ P l. keeps-dead (a .prunes .keeps P (l .listed .wf) l) (a .rest .dead (not-true ok e) P l)); kept = kept-at }
+
+    pub begins-at : {q : List ℕ} → SomeAt L bound q → Begins (Lent K) 0 s q
+    begins-at {q} w = record {
+      prefix = λ P o. firsts.begin P (o .listed .wf) (view s) (planOf q) (subst (λ (b : ℕ). Valid (P .problem) b (planOf q)) (sym (bound-is P o)) (w .valid (P .problem) (rebound-back d (P .problem) (o .listed)))) (λ F b. f P o F (b .ok));
+      size = w .size;
+    }
+      where
+        bound-is : (P : Search) → Lent K P → P .bound ≡ bound
+        bound-is P o = omega (arith, o .bound, lent-at (v .served) (v .listed) .bound)
+
+  pub first-at : {q : List ℕ} → FirstOf (Lent K) q → FirstAt L bound q
+  first-at a = record { first = λ P t. a .plan _ (lent-at P t); size = a .size }
+
+-- ── lists of the same problems ──
+
+pub kept-refl : (L : List ℕ) → Kept L L
+kept-refl L = record { to = λ P t. t; back = λ P t. t }
+
+module _ {L K : List ℕ} (k : Kept L K) where
+  pub kept-trans : {M : List ℕ} → Kept K M → Kept L M
+  kept-trans m = record { to = λ P t. m .to P (k .to P t); back = λ P t. k .back P (m .back P t) }
+
+  pub kept-back : Kept K L
+  kept-back = record { to = k .back; back = k .to }
+
+  pub served-to : {bound high : ℕ} → Served L high → bound ≤ high → Served K bound
+  served-to v l = record { served = v .served; listed = k .to (v .served) (v .listed); short = omega (arith, v .short) }
+
+  pub none-to : {low : ℕ} → NoneBelow L low → NoneBelow K low
+  none-to n P t = n P (k .back P t)
+
+  pub some-to : {bound : ℕ} {starts : List ℕ} → SomeAt L bound starts → SomeAt K bound starts
+  some-to w = record { valid = λ P t. w .valid P (k .back P t); size = w .size }
+
+  pub held-to : {low high : ℕ} {starts : List ℕ} → Held L low high starts → Held K low high starts
+  held-to h = record { none = none-to (h .none); some = some-to (h .some); within = h .within }
 
 -- there is no plan, so no bound is the least
 pub least-not : {P : Problem} {top : ℕ} {starts : List ℕ} → NoPlan P top → LeastOf P top starts 65535
 least-not n = record { found = λ x. absurd (x refl); size = λ x. absurd (x refl); none = λ x. n }
+
+pub plan-none : {P : Problem} {bound : ℕ} {starts : List ℕ} → NoPlan P bound → PlanAt P bound starts false
+plan-none n = record { first = λ h. absurd (subst T (sym h) tt); size = λ h. absurd (subst T (sym h) tt); none = λ h. n }
+
+pub plan-first : {L : List ℕ} {bound : ℕ} {starts : List ℕ} → FirstAt L bound starts → (P : Problem) → Listed L P → PlanAt P bound starts true
+plan-first f P t = record { first = λ h. f .first P t; size = λ h. f .size; none = λ h. absurd (true≢false h) }
 
 -- ── what is searched has the table's plans ──
 
@@ -77,11 +122,11 @@ module _ {l : Loaded} {q : Ask} {o : Outset} (x : SetsOut l q o) where
   first-same bound s f = record { ok = x .same bound s .1 (f .ok); none = λ z v b. f .none z (x .same bound z .0 v) (record { at = b .at; below = omega (arith, b .below, x .jobs); same = b .same; less = b .less }) }
 
   -- where the goals can't hold together there is no plan
-  pub plan-none : {bound : ℕ} {first : Bool} {starts : List ℕ} → o .goals ≡ false → PlanAt (problem l q) bound first starts false
-  plan-none {bound} e = record { valid = λ h. absurd (subst T (sym h) tt); least = λ h. absurd (subst T (sym h) tt); size = λ h. absurd (subst T (sym h) tt); none = λ h. x .hopeless e bound }
+  pub plan-hopeless : {bound : ℕ} {starts : List ℕ} → o .goals ≡ false → PlanAt (problem l q) bound starts false
+  plan-hopeless {bound} e = plan-none (x .hopeless e bound)
 
-  pub plan-same : {bound : ℕ} {first : Bool} {starts : List ℕ} {r : Bool} → PlanAt (x .searched) bound first starts r → PlanAt (problem l q) bound first starts r
-  plan-same {bound} p = record { valid = λ e. x .same bound _ .1 (p .valid e); least = λ e g. first-same bound _ (p .least e g); size = p .size; none = λ e. none-same bound (p .none e) }
+  pub plan-same : {bound : ℕ} {starts : List ℕ} {r : Bool} → PlanAt (x .searched) bound starts r → PlanAt (problem l q) bound starts r
+  plan-same {bound} p = record { first = λ e. first-same bound _ (p .first e); size = p .size; none = λ e. none-same bound (p .none e) }
 
   pub least-same : {top b : ℕ} {starts : List ℕ} → LeastOf (x .searched) top starts b → LeastOf (problem l q) top starts b
   least-same {top} p = record { found = λ e. bound (p .found e); size = p .size; none = λ e. none-same top (p .none e) }
@@ -117,80 +162,55 @@ module _ (P : Problem) (ok : InOrder P) (s : Plan) (bound e : ℕ) (a : LastEnd 
   pub end-within : e ≤ bound
   end-within = a .least bound (λ i l t. v .inside i (record { below = l; chosen = t }))
 
--- ── halving ──
-
--- where there is no plan within mid there is none within less
-pub none-below : (P : Problem) (mid : ℕ) → NoPlan P mid → (c : ℕ) → c < mid + 1 → NoPlan P c
-none-below P mid n c l z v = n z (wider P c mid z (omega arith) v)
+-- ── the least bound ──
 
 -- a bound with a plan is not below the range
-pub not-below : (P : Problem) (low e : ℕ) (s : Plan) → ((c : ℕ) → c < low → NoPlan P c) → Valid P e s → low ≤ e
+not-below : (P : Problem) (low e : ℕ) (s : Plan) → ((c : ℕ) → c < low → NoPlan P c) → Valid P e s → low ≤ e
 not-below P low e s n v = go (decLt e low)
   where
     go : Dec (e < low) → low ≤ e
     go (yes h) = absurd (n e h s v)
     go (no h) = omega arith
 
--- where there is a plan, one is found
-pub surely : {P : Problem} {bound : ℕ} {first : Bool} {starts : List ℕ} {r : Bool} → PlanAt P bound first starts r → (s : Plan) × Valid P bound s → r ≡ true
-surely {P} {bound} {r = r} p v = go r (p .none)
-  where
-    go : (x : Bool) → (x ≡ false → NoPlan P bound) → x ≡ true
-    go true n = refl
-    go false n = absurd (n refl (v .0) (v .1))
+-- a range whose high end is that of a plan
+held-at : {L starts : List ℕ} {low high b : ℕ} → Served L b → NoneBelow L low → SomeAt L high starts → Held L low high starts
+held-at {starts = starts} {low} {high} v n w = record { none = n; some = w; within = not-below (v .served) low high (planOf starts) (n (v .served) (v .listed)) (w .valid (v .served) (v .listed)) }
 
--- a plan that is found is valid within its last end, which is in the bound
-module _ {L K starts : List ℕ} {mid e : ℕ} {first r : Bool} (d : PlansAt L mid first K starts r) (h : r ≡ true) (ends : (P : Problem) → Listed K P → LastEnd P (planOf starts) (P .count) e) (P : Problem) (t : Listed L P) where
-  pub ends-valid : Valid P e (planOf starts)
-  ends-valid = end-valid P (t .wf) (planOf starts) mid e (ends P (d .kept P t)) (d .each P t .valid h)
+pub probes-up : {L K : List ℕ} {low high mid : ℕ} {r : Bool} → Hopeless L mid K r → r ≡ true → low ≤ mid → mid < high → Probes L low high K (record { low = mid + 1; high = high })
+probes-up h e l m = record { none = λ n. h .none e; within = omega arith; top = omega arith; less = omega arith; kept = h .kept }
 
-  pub ends-within : e ≤ mid
-  ends-within = end-within P (t .wf) (planOf starts) mid e (ends P (d .kept P t)) (d .each P t .valid h)
+pub probes-down : {L K : List ℕ} {low high mid : ℕ} {r : Bool} → Hopeless L mid K r → low ≤ mid → mid < high → Probes L low high K (record { low = low; high = mid })
+probes-down h l m = record { none = λ n. n; within = omega arith; top = omega arith; less = omega arith; kept = h .kept }
 
-module _ {L K starts : List ℕ} {low high mid : ℕ} {first r : Bool} (d : PlansAt L mid first K starts r) (m : mid < high) where
-  pub halves-up : r ≡ false → low ≤ mid → Halves L low high K (record { low = mid + 1; high = high })
-  halves-up n l = record {
-    each = λ P t b. record { none = none-below P mid (d .each P t .none n); some = b .some };
-    within = omega arith;
+module _ {L K old new : List ℕ} {bound : ℕ} {r : Bool} (d : AnyAt L bound old K new r) where
+  -- a plan that is found is valid within its last end, which is in the bound
+  module _ {e : ℕ} (h : r ≡ true) (ends : (P : Problem) → Listed K P → LastEnd P (planOf new) (P .count) e) where
+    ends-some : SomeAt L e new
+    ends-some = record { valid = λ P t. end-valid P (t .wf) (planOf new) bound e (ends P (d .kept .to P t)) (d .some h .valid P t); size = d .some h .size }
+
+    pub ends-within : Served L bound → e ≤ bound
+    ends-within v = end-within (v .served) (v .listed .wf) (planOf new) bound e (ends (v .served) (d .kept .to (v .served) (v .listed))) (d .some h .valid (v .served) (v .listed))
+
+    pub ends-held : {low : ℕ} → Served L bound → NoneBelow L low → Held L low e new
+    ends-held v n = held-at v n ends-some
+
+    pub halves-down : {low high : ℕ} → Served L bound → bound < high → NoneBelow L low → Halves L low high K new (record { low = low; high = e })
+    halves-down v m n =
+        let w = ends-held v n in
+        record { held = w; top = omega (arith, ends-within v); less = omega (arith, ends-within v, w .within); kept = d .kept }
+
+  pub halves-up : {low high : ℕ} → r ≡ false → low ≤ bound → bound < high → Held L low high old → Halves L low high K new (record { low = bound + 1; high = high })
+  halves-up {high = high} e l m w = record {
+    held = record { none = d .none e; some = subst (λ (s : List ℕ). SomeAt L high s) (sym (d .same e)) (w .some); within = omega arith };
     top = le-refl high;
-    less = inl (omega arith);
-    bottom = omega arith;
+    less = omega arith;
     kept = d .kept;
   }
 
-  pub halves-down : {e : ℕ} → r ≡ true → ((P : Problem) → Listed K P → LastEnd P (planOf starts) (P .count) e) → Spans L low high → Halves L low high K (record { low = low; high = e })
-  halves-down {e} h ends s = record {
-    each = λ P t b. record { none = b .none; some = (planOf starts, ends-valid d h ends P t) };
-    within = not-below (s .spanned) low e (planOf starts) (s .between .none) (ends-valid d h ends (s .spanned) (s .listed));
-    top = omega (arith, ends-within d h ends (s .spanned) (s .listed));
-    less = inr (omega (arith, ends-within d h ends (s .spanned) (s .listed)));
-    bottom = le-refl low;
-    kept = d .kept;
-  }
-
--- the least bound with the first plan at it, from a plan and its last end
-module _ {L K some : List ℕ} {top e : ℕ} {flag r : Bool} (v : Served L top) (d : PlansAt L top flag K some r) (h : r ≡ true)
-    (ends : (P : Problem) → Listed K P → LastEnd P (planOf some) (P .count) e) where
-  pub ends-short : e < 65535
-  ends-short = omega (arith, ends-within d h ends (v .served) (v .listed), v .short)
-
-  span : (P : Problem) → Listed L P → Between P 0 e
-  span P t = record { none = λ c l. absurd (omega arith); some = (planOf some, ends-valid d h ends P t) }
-
-  pub spans-all : Spans K 0 e
-  spans-all = record { spanned = v .served; listed = d .kept (v .served) (v .listed); between = span (v .served) (v .listed); short = ends-short }
-
-  module _ {M : List ℕ} {b : ℕ} (n : Narrows K e M b) where
-    pub served-least : Served M b
-    served-least = record { served = v .served; listed = n .kept (v .served) (d .kept (v .served) (v .listed)); short = omega (arith, n .within, ends-short) }
-
-    pub least-found : {N best : List ℕ} {s : Bool} → PlansAt M b true N best s → (P : Problem) → Listed L P → LeastOf P top best b
-    least-found f P t =
-        let w = n .each P (d .kept P t) (span P t) in
-        let p = f .each P (n .kept P (d .kept P t)) in
-        let y = surely p (w .some) in
-        record {
-          found = λ x. record { within = omega (arith, n .within, ends-within d h ends P t); first = p .least y refl; none = λ c z l g. w .none c l z g };
-          size = λ x. p .size y;
-          none = λ x. absurd (omega (arith, n .within, ends-short));
-        }
+-- the least bound with the first plan at it
+pub least-found : {L starts best : List ℕ} {top b : ℕ} → Held L b b starts → b ≤ top → top < 65535 → FirstAt L b best → (P : Problem) → Listed L P → LeastOf P top best b
+least-found w l s f P t = record {
+  found = λ x. record { within = l; first = f .first P t; none = λ c z m g. w .none P t c m z g };
+  size = λ x. f .size;
+  none = λ x. absurd (omega arith);
+}

@@ -1,10 +1,10 @@
 -- What the contracts of planning at several bounds cite.
 -- Assumes nothing.
 use mathlib.Core.Path.{_≡_}
-use mathlib.Core.Logic.{_⊎_, _≢_}
+use mathlib.Core.Logic.{_≢_}
 use mathlib.Core.Bool.{Bool, true, false}
 use mathlib.Core.List.{List}
-use Prim.Native.Nat.{ℕ, _+_, _≤_, _<_}
+use Prim.Native.Nat.{ℕ, _+_, _-_, _≤_, _<_}
 use lib.Dec.{T}
 use lib.ListN.{length}
 use Rattle.rules.specs.Table.{Problem, InOrder}
@@ -25,10 +25,9 @@ pub record InReach (l : Loaded) (q : Ask) (bound : ℕ) : Type 0 where
 
 -- ── one bound ──
 
--- a valid plan, the first where it is wanted, or that there is none
-pub record PlanAt (P : Problem) (bound : ℕ) (first : Bool) (starts : List ℕ) (found : Bool) : Type 0 where
-  pub valid : found ≡ true → Valid P bound (planOf starts)
-  pub least : found ≡ true → first ≡ true → First P bound (planOf starts)
+-- the first plan, or that there is none
+pub record PlanAt (P : Problem) (bound : ℕ) (starts : List ℕ) (found : Bool) : Type 0 where
+  pub first : found ≡ true → First P bound (planOf starts)
   pub size : found ≡ true → length starts ≡ 24
   pub none : found ≡ false → NoPlan P bound
 
@@ -38,12 +37,35 @@ pub record Served (L : List ℕ) (bound : ℕ) : Type 0 where
   pub listed : Listed L served
   pub short : bound < 65535
 
--- the lists K are those of the same problems
-abbrev pub Kept : (L K : List ℕ) → Type 0
-Kept L K = (P : Problem) → Listed L P → Listed K P
+-- the lists L and K are those of the same problems
+pub record Kept (L K : List ℕ) : Type 0 where
+  pub to : (P : Problem) → Listed L P → Listed K P
+  pub back : (P : Problem) → Listed K P → Listed L P
 
-pub record PlansAt (L : List ℕ) (bound : ℕ) (first : Bool) (K starts : List ℕ) (found : Bool) : Type 0 where
-  pub each : (P : Problem) → Listed L P → PlanAt P bound first starts found
+-- there is no plan within any bound below low
+abbrev pub NoneBelow : (L : List ℕ) (low : ℕ) → Type 0
+NoneBelow L low = (P : Problem) → Listed L P → (c : ℕ) → c < low → NoPlan P c
+
+-- the starts are a plan within the bound
+pub record SomeAt (L : List ℕ) (bound : ℕ) (starts : List ℕ) : Type 0 where
+  pub valid : (P : Problem) → Listed L P → Valid P bound (planOf starts)
+  pub size : length starts ≡ 24
+
+-- a plan within the bound; or there is none, and the starts are as they were
+pub record AnyAt (L : List ℕ) (bound : ℕ) (old K new : List ℕ) (found : Bool) : Type 0 where
+  pub some : found ≡ true → SomeAt L bound new
+  pub none : found ≡ false → NoneBelow L (bound + 1)
+  pub same : found ≡ false → new ≡ old
+  pub kept : Kept L K
+
+-- the starts are the first plan within the bound
+pub record FirstAt (L : List ℕ) (bound : ℕ) (starts : List ℕ) : Type 0 where
+  pub first : (P : Problem) → Listed L P → First P bound (planOf starts)
+  pub size : length starts ≡ 24
+
+-- there is no plan within the bound, if the answer says so
+pub record Hopeless (L : List ℕ) (bound : ℕ) (K : List ℕ) (r : Bool) : Type 0 where
+  pub none : r ≡ true → NoneBelow L (bound + 1)
   pub kept : Kept L K
 
 -- ── where a plan ends ──
@@ -61,30 +83,42 @@ pub record LastEnd (P : Problem) (s : Plan) (n e : ℕ) : Type 0 where
 
 -- ── the least bound ──
 
--- there is no plan within any bound below low, and one within high
-pub record Between (P : Problem) (low high : ℕ) : Type 0 where
-  pub none : (c : ℕ) → c < low → NoPlan P c
-  pub some : (s : Plan) × Valid P high s
-
--- the lists are those of some problem whose least bound is in the range
-pub record Spans (L : List ℕ) (low high : ℕ) : Type 0 where
-  pub spanned : Problem
-  pub listed : Listed L spanned
-  pub between : Between spanned low high
-  pub short : high < 65535
-
--- the range r holds the least bound and is smaller
-pub record Halves (L : List ℕ) (low high : ℕ) (K : List ℕ) (r : Range) : Type 0 where
-  pub each : (P : Problem) → Listed L P → Between P low high → Between P (r .low) (r .high)
+-- the range r is smaller, and there is no plan below it if there was none below low
+pub record Probes (L : List ℕ) (low high : ℕ) (K : List ℕ) (r : Range) : Type 0 where
+  pub none : NoneBelow L low → NoneBelow L (r .low)
   pub within : r .low ≤ r .high
   pub top : r .high ≤ high
-  pub less : (low < r .low) ⊎ (r .high < high)
-  pub bottom : low ≤ r .low
+  pub less : r .high - r .low < high - low
   pub kept : Kept L K
 
--- b is the least bound up to high that has a plan
-pub record Narrows (L : List ℕ) (high : ℕ) (K : List ℕ) (b : ℕ) : Type 0 where
-  pub each : (P : Problem) → Listed L P → Between P 0 high → Between P b b
+-- there is no plan below b, which is at most top
+pub record LowEnd (L : List ℕ) (top : ℕ) (K : List ℕ) (b : ℕ) : Type 0 where
+  pub none : NoneBelow L b
+  pub within : b ≤ top
+  pub kept : Kept L K
+
+-- the range holds the least bound, and the starts are a plan within its high end
+pub record Held (L : List ℕ) (low high : ℕ) (starts : List ℕ) : Type 0 where
+  pub none : NoneBelow L low
+  pub some : SomeAt L high starts
+  pub within : low ≤ high
+
+-- the range r holds the least bound, or its high end is 65,535: there is no plan within top
+pub record Rises (L : List ℕ) (top : ℕ) (K starts : List ℕ) (r : Range) : Type 0 where
+  pub held : r .high ≢ 65535 → Held L (r .low) (r .high) starts × (r .high ≤ top)
+  pub none : r .high ≡ 65535 → NoneBelow L (top + 1)
+  pub kept : Kept L K
+
+-- the range r holds the least bound and is smaller
+pub record Halves (L : List ℕ) (low high : ℕ) (K starts : List ℕ) (r : Range) : Type 0 where
+  pub held : Held L (r .low) (r .high) starts
+  pub top : r .high ≤ high
+  pub less : r .high - r .low < high - low
+  pub kept : Kept L K
+
+-- b is the least bound, at most high, and the starts are a plan within it
+pub record Narrows (L : List ℕ) (high : ℕ) (K starts : List ℕ) (b : ℕ) : Type 0 where
+  pub held : Held L b b starts
   pub within : b ≤ high
   pub kept : Kept L K
 

@@ -9,7 +9,7 @@ ghost use Rattle.rules.specs.Refusals.{accepted};
 ghost use Rattle.tables.specs.Tables.{problem, Judges};
 ghost use Rattle.lent.specs.Lent.{Listed};
 ghost use Rattle.leaves.specs.Leaf.{planOf};
-ghost use Rattle.planning.specs.Derived.{InReach, PlanAt, Served, PlansAt, Later, LastEnd, Spans, Halves, Narrows, LeastOf};
+ghost use Rattle.planning.specs.Derived.{InReach, PlanAt, Served, NoneBelow, SomeAt, AnyAt, FirstAt, Hopeless, Later, LastEnd, Probes, LowEnd, Held, Rises, Halves, Narrows, LeastOf};
 ghost use Rattle.planning.specs.Planning.{planningChecks, Plannable, PlansWithin, BoundsWithin};
 use lent::Tables;
 use tables::Answer;
@@ -29,17 +29,34 @@ fn wide(x: u16) -> u32
     x as u32
 }
 
-// A valid plan within the bound, the first where that is wanted.
-fn plan_at(t: &mut Tables, bound: u16, first: bool, out: &mut [u16; 24]) -> bool
+// A valid plan within the bound.
+fn any_at(t: &mut Tables, bound: u16, out: &mut [u16; 24]) -> bool
     requires { ⌜ Served (now t) bound ⌝ }
-    ensures { λ r. ⌜ PlansAt (now (t .entry)) bound first (now (t .exit)) (now (out .exit)) r ⌝ }
+    ensures { λ r. ⌜ AnyAt (now (t .entry)) bound (now (out .entry)) (now (t .exit)) (now (out .exit)) r ⌝ }
 {
     lent::put_bound(t, wide(bound));
     let mut s = outset::root(t);
-    if first {
-        return planner::first(&mut s, t, out);
-    }
     search::find_plan(&mut s, t, out)
+}
+
+// The first plan within the bound, from some plan within it.
+fn first_at(t: &mut Tables, bound: u16, out: &mut [u16; 24])
+    requires { ⌜ Served (now t) bound × SomeAt (now t) bound (now out) ⌝ }
+    ensures { λ _. ⌜ FirstAt (now (t .entry)) bound (now (out .exit)) ⌝ }
+{
+    lent::put_bound(t, wide(bound));
+    let mut s = outset::root(t);
+    planner::first(&mut s, t, out);
+}
+
+// Pruning alone finds that there is no plan within the bound.
+fn hopeless(t: &mut Tables, bound: u16) -> bool
+    requires { ⌜ Served (now t) bound ⌝ }
+    ensures { λ r. ⌜ Hopeless (now (t .entry)) bound (now (t .exit)) r ⌝ }
+{
+    lent::put_bound(t, wide(bound));
+    let mut s = outset::root(t);
+    !search::pruned(&mut s, t)
 }
 
 // The sum of the durations of the jobs below n.
@@ -94,13 +111,77 @@ fn last_end(t: &Tables, out: &[u16; 24]) -> u64
     end
 }
 
-// The half of the range that holds the least bound.
-fn halve(t: &mut Tables, low: u16, high: u16, out: &mut [u16; 24]) -> Range
-    requires { ⌜ Spans (now t) low high × (low < high) ⌝ }
-    ensures { λ r. ⌜ Halves (now (t .entry)) low high (now (t .exit)) r ⌝ }
+// The half of the range that holds the least bound that pruning leaves open.
+fn probe(t: &mut Tables, low: u16, high: u16) -> Range
+    requires { ⌜ Served (now t) high × (low < high) ⌝ }
+    ensures { λ r. ⌜ Probes (now (t .entry)) low high (now (t .exit)) r ⌝ }
 {
     let mid = low + (high - low) / 2;
-    if !plan_at(t, mid, false, out) {
+    if hopeless(t, mid) {
+        return Range { low: mid + 1, high };
+    }
+    Range { low, high: mid }
+}
+
+// The least bound up to top that pruning leaves open.
+fn low_end(t: &mut Tables, top: u16) -> u16
+    requires { ⌜ Served (now t) top ⌝ }
+    ensures { λ r. ⌜ LowEnd (now (t .entry)) top (now (t .exit)) r ⌝ }
+{
+    let mut low: u16 = 0;
+    let mut high = top;
+    while low < high {
+        let r = probe(t, low, high);
+        low = r.low;
+        high = r.high;
+    }
+    low
+}
+
+// The bound to be tried after one that has no plan: twice as far from the low end.
+fn next(at: u16, low: u16, top: u16) -> u16
+    requires { ⌜ (low ≤ at) × (at < top) ⌝ }
+    ensures { λ r. ⌜ (at < r) × (r ≤ top) ⌝ }
+{
+    let gap = at - low + 1;
+    if top - at < gap {
+        return top;
+    }
+    at + gap
+}
+
+// A range that holds the least bound, with a plan within its high end; 65,535 is the high end where there is no plan within top.
+fn rise(t: &mut Tables, low: u16, top: u16, out: &mut [u16; 24]) -> Range
+    requires { ⌜ Served (now t) top × (low ≤ top) × NoneBelow (now t) low ⌝ }
+    ensures { λ r. ⌜ Rises (now (t .entry)) top (now (t .exit)) (now (out .exit)) r ⌝ }
+{
+    let mut from = low;
+    let mut at = low;
+    loop {
+        if any_at(t, at, out) {
+            return Range {
+                low: from,
+                high: last_end(t, out) as u16,
+            };
+        }
+        if at == top {
+            return Range {
+                low: from,
+                high: 65535,
+            };
+        }
+        from = at + 1;
+        at = next(at, low, top);
+    }
+}
+
+// The half of the range that holds the least bound.
+fn halve(t: &mut Tables, low: u16, high: u16, out: &mut [u16; 24]) -> Range
+    requires { ⌜ Served (now t) high × Held (now t) low high (now out) × (low < high) ⌝ }
+    ensures { λ r. ⌜ Halves (now (t .entry)) low high (now (t .exit)) (now (out .exit)) r ⌝ }
+{
+    let mid = low + (high - low) / 2;
+    if !any_at(t, mid, out) {
         return Range { low: mid + 1, high };
     }
     let end = last_end(t, out);
@@ -110,12 +191,12 @@ fn halve(t: &mut Tables, low: u16, high: u16, out: &mut [u16; 24]) -> Range
     }
 }
 
-// The least bound up to one that has a plan.
-fn narrow(t: &mut Tables, top: u16, out: &mut [u16; 24]) -> u16
-    requires { ⌜ Spans (now t) 0 top ⌝ }
-    ensures { λ r. ⌜ Narrows (now (t .entry)) top (now (t .exit)) r ⌝ }
+// The least bound of a range, with a plan within it.
+fn narrow(t: &mut Tables, from: u16, top: u16, out: &mut [u16; 24]) -> u16
+    requires { ⌜ Served (now t) top × Held (now t) from top (now out) ⌝ }
+    ensures { λ b. ⌜ Narrows (now (t .entry)) top (now (t .exit)) (now (out .exit)) b ⌝ }
 {
-    let mut low: u16 = 0;
+    let mut low = from;
     let mut high = top;
     while low < high {
         let r = halve(t, low, high, out);
@@ -130,26 +211,31 @@ fn least_of(t: &mut Tables, top: u16, out: &mut [u16; 24]) -> u16
     requires { ⌜ Served (now t) top ⌝ }
     ensures { λ r. ⌜ ((P : Problem) → Listed (now (t .entry)) P → LeastOf P top (now (out .exit)) r) ⌝ }
 {
-    if !plan_at(t, top, false, out) {
+    let low = low_end(t, top);
+    let r = rise(t, low, top, out);
+    if r.high == 65535 {
         return 65535;
     }
-    let end = last_end(t, out);
-    let bound = narrow(t, end as u16, out);
-    plan_at(t, bound, true, out);
+    let bound = narrow(t, r.low, r.high, out);
+    first_at(t, bound, out);
     bound
 }
 
 // The first plan within top.
 fn first_within(l: Loaded, q: Ask, top: u16, out: &mut [u16; 24]) -> bool
     requires { ⌜ InReach l q top ⌝ }
-    ensures { λ r. ⌜ PlanAt (problem l q) top true (now (out .exit)) r ⌝ }
+    ensures { λ r. ⌜ PlanAt (problem l q) top (now (out .exit)) r ⌝ }
 {
     let o = outset::set_out(l, q);
     if !o.goals {
         return false;
     }
     let mut t = o.tables;
-    plan_at(&mut t, top, true, out)
+    if !any_at(&mut t, top, out) {
+        return false;
+    }
+    first_at(&mut t, top, out);
+    true
 }
 
 // The least bound up to top, with the first plan at it.

@@ -1,16 +1,34 @@
-use Rattle.planner.proofs.Laws.{first-begin, first-none}
-use borrow.Author.Tests.{not-true, not-false}
+use Rattle.planner.proofs.Laws.{first-done}
+use Rattle.planner.specs.Planner.{Begins}
+use Rattle.lent.specs.Lent.{Lent}
+use Prim.Native.Nat.{_-_, _≤_}
+use native.Mathlib.Omega.{arith}
+use borrow.Author.Needs.{needs}
 use Rattle.planner.proofs.first.Statement.{statement}
 use Rattle.planner.proofs.first.Tie as tie
 
-first-from-requires : tie.Need-first-from-requires
-first-from-requires c κs = (first-begin (c .before .before .before .before .before .before .before .pre .0) (c .before .before .before .find-plan .ensures) (not-false _ (c .before .before .if1 .left)), c .before .before .before .before .before .before .before .pre .1)
+abbrev Inv-loop : tie.InvT-loop
+Inv-loop root₀ t out₀ n k₀ root out k = (k ≤ n) × Begins (Lent t) k root out
+
+abbrev μ-loop : tie.MeasureT-loop
+μ-loop root₀ t out₀ n k₀ root out k = n - k
+
+settle-job-requires : tie.Need-settle-job-requires Inv-loop μ-loop
+settle-job-requires c κs = let some = c .before .before .before .before .before .pre .1 in (c .before .before .before .loop .inv .1, omega (arith, some .1 .listed .few, some .1 .listed .count, c .before .before .before .before .count .ensures), omega (arith, c .before .before .before .before .count .ensures), some)
+
+add-k : tie.Need-add-k Inv-loop μ-loop
+add-k c = let some = c .before .before .before .before .before .before .pre .1 in omega (arith, some .1 .listed .few, some .1 .listed .count, c .before .before .before .before .before .count .ensures)
 
 pub first-spec : {M : Type 1} → statement M
 first-spec =
     tie.close
     (tie.spec
-    (λ c κs. c .before .before .before .pre .1)
-    (λ c. first-none (c .before .before .before .before .before .pre .0) (c .before .find-plan .ensures) (not-true _ (c .if1 .taken)))
-    first-from-requires
-    (λ c. c .first-from .ensures))
+    Inv-loop
+    μ-loop
+    (λ c κs. search needs)
+    (λ c. (omega arith, c .before .pre .0))
+    settle-job-requires
+    add-k
+    (λ c. search needs)
+    (λ c. (omega arith, c .settle-job .ensures))
+    (λ c. first-done (omega (arith, c .before .before .count .ensures, c .before .loop .inv .0)) (c .before .loop .inv .1)))

@@ -1,18 +1,21 @@
-use Rattle.planning.proofs.Laws.{ends-within, halves-up, halves-down}
+use Rattle.planning.proofs.Laws.{kept-refl, served-to, ends-within, halves-up, halves-down}
 use native.Mathlib.Omega.{arith}
 use borrow.Author.Tests.{not-true, not-false}
 use borrow.Author.Needs.{needs}
 use Rattle.planning.proofs.halve.Statement.{statement}
 use Rattle.planning.proofs.halve.Tie as tie
 
+returns : tie.Need-returns
+returns c = halves-up (c .before .any-at .ensures) (not-true _ (c .if1 .taken)) (omega arith) (omega arith) (c .before .before .before .before .pre .1)
+
 last-end-requires : tie.Need-last-end-requires
-last-end-requires c κs = let s = c .before .before .before .before .before .before .pre .0 in (record { served = s .spanned; listed = c .before .before .before .plan-at .ensures .kept (s .spanned) (s .listed); short = omega arith }, c .before .before .before .plan-at .ensures .each (s .spanned) (s .listed) .size (not-false _ (c .before .before .if1 .left)))
+last-end-requires c κs = (served-to (c .before .before .before .any-at .ensures .kept) (c .before .before .before .before .before .before .pre .0) (omega arith), c .before .before .before .any-at .ensures .some (not-false _ (c .before .before .if1 .left)) .size)
 
 cast-t7 : tie.Need-cast-t7
-cast-t7 c = let s = c .before .before .before .before .before .before .before .pre .0 in omega (arith, ends-within (c .before .before .before .before .plan-at .ensures) (not-false _ (c .before .before .before .if1 .left)) (c .last-end .ensures) (s .spanned) (s .listed), s .short)
+cast-t7 c = omega (arith, ends-within (c .before .before .before .before .any-at .ensures) (not-false _ (c .before .before .before .if1 .left)) (c .last-end .ensures) (served-to (kept-refl _) (c .before .before .before .before .before .before .before .pre .0) (omega arith)), c .before .before .before .before .before .before .before .pre .0 .short)
 
 returns-2 : tie.Need-returns-2
-returns-2 c = halves-down (c .before .before .before .before .plan-at .ensures) (omega arith) (not-false _ (c .before .before .before .if1 .left)) (c .last-end .ensures) (c .before .before .before .before .before .before .before .pre .0)
+returns-2 c = halves-down (c .before .before .before .before .any-at .ensures) (not-false _ (c .before .before .before .if1 .left)) (c .last-end .ensures) (served-to (kept-refl _) (c .before .before .before .before .before .before .before .pre .0) (omega arith)) (omega arith) (c .before .before .before .before .before .before .before .pre .1 .none)
 
 pub halve-spec : {M : Type 1} → statement M
 halve-spec =
@@ -20,9 +23,9 @@ halve-spec =
     (tie.spec
     (λ c. search needs)
     (λ c. search needs)
-    (λ c κs. let s = c .before .before .pre .0 in record { served = s .spanned; listed = s .listed; short = omega (arith, s .short) })
+    (λ c κs. served-to (kept-refl _) (c .before .before .pre .0) (omega arith))
     (λ c. search needs)
-    (λ c. halves-up (c .before .plan-at .ensures) (omega arith) (not-true _ (c .if1 .taken)) (omega arith))
+    returns
     last-end-requires
     cast-t7
     returns-2)

@@ -1,32 +1,22 @@
-use Rattle.planning.proofs.Laws.{ends-short, spans-all, served-least, least-found, least-not}
+use Rattle.planning.proofs.Laws.{kept-trans, served-to, none-to, some-to, held-to, least-found, least-not}
 use native.Mathlib.Omega.{arith}
-use borrow.Author.Tests.{not-true, not-false}
 use Rattle.planning.proofs.least_of.Statement.{statement}
 use Rattle.planning.proofs.least_of.Tie as tie
 
-last-end-requires : tie.Need-last-end-requires
-last-end-requires c κs = let s = (c .before .before .before .before .before .before .pre) in (record { served = s .served; listed = c .before .before .before .plan-at .ensures .kept (s .served) (s .listed); short = omega arith }, c .before .before .before .plan-at .ensures .each (s .served) (s .listed) .size (not-false _ (c .before .before .if1 .left)))
+rise-requires : tie.Need-rise-requires
+rise-requires c κs = let d = c .before .before .low-end .ensures in (served-to (d .kept) (c .before .before .before .before .pre) (omega arith), d .within, none-to (d .kept) (d .none))
 
-cast-narrow : tie.Need-cast-narrow
-cast-narrow c = omega (arith, ends-short (c .before .before .before .before .before .before .before .before .pre) (c .before .before .before .before .before .plan-at .ensures) (not-false _ (c .before .before .before .before .if1 .left)) (c .before .last-end .ensures))
+returns : tie.Need-returns
+returns c = λ P t. least-not (c .before .before .rise .ensures .none (c .if1 .taken) P (c .before .before .before .before .before .low-end .ensures .kept .to P t) _ (omega arith))
 
 narrow-requires : tie.Need-narrow-requires
-narrow-requires c κs = spans-all (c .before .before .before .before .before .before .before .before .before .pre) (c .before .before .before .before .before .before .plan-at .ensures) (not-false _ (c .before .before .before .before .before .if1 .left)) (c .before .before .last-end .ensures)
+narrow-requires c κs = let d = c .before .before .before .before .rise .ensures in let h = d .held (c .before .before .if1 .left) in (served-to (kept-trans (c .before .before .before .before .before .before .before .low-end .ensures .kept) (d .kept)) (c .before .before .before .before .before .before .before .before .before .pre) (h .1), held-to (d .kept) (h .0))
 
-plan-at-requires-2 : tie.Need-plan-at-requires-2
-plan-at-requires-2 c κs = served-least (c .before .before .before .before .before .before .before .before .before .before .before .before .pre) (c .before .before .before .before .before .before .before .before .before .plan-at .ensures) (not-false _ (c .before .before .before .before .before .before .before .before .if1 .left)) (c .before .before .before .before .before .last-end .ensures) (c .before .before .narrow .ensures)
+first-at-requires : tie.Need-first-at-requires
+first-at-requires c κs = let d = c .before .before .before .before .before .before .before .rise .ensures in let n = c .before .before .narrow .ensures in (served-to (kept-trans (kept-trans (c .before .before .before .before .before .before .before .before .before .before .low-end .ensures .kept) (d .kept)) (n .kept)) (c .before .before .before .before .before .before .before .before .before .before .before .before .pre) (omega (arith, n .within, d .held (c .before .before .before .before .before .if1 .left) .1)), some-to (n .kept) (n .held .some))
 
 returns-2 : tie.Need-returns-2
-returns-2 c = least-found (c .before .before .before .before .before .before .before .before .before .before .before .before .before .pre) (c .before .before .before .before .before .before .before .before .before .before .plan-at .ensures) (not-false _ (c .before .before .before .before .before .before .before .before .before .if1 .left)) (c .before .before .before .before .before .before .last-end .ensures) (c .before .before .before .narrow .ensures) (c .plan-at2 .ensures)
+returns-2 c = let d = c .before .before .before .before .before .before .before .before .rise .ensures in let n = c .before .before .before .narrow .ensures in λ P t. least-found (held-to (n .kept) (n .held)) (omega (arith, n .within, d .held (c .before .before .before .before .before .before .if1 .left) .1)) (c .before .before .before .before .before .before .before .before .before .before .before .before .before .pre .short) (c .first-at .ensures) P (kept-trans (kept-trans (c .before .before .before .before .before .before .before .before .before .before .before .low-end .ensures .kept) (d .kept)) (n .kept) .to P t)
 
 pub least-of-spec : {M : Type 1} → statement M
-least-of-spec =
-    tie.close
-    (tie.spec
-    (λ c κs. (c .before .before .pre))
-    (λ c. λ P t. least-not (c .before .plan-at .ensures .each P t .none (not-true _ (c .if1 .taken))))
-    last-end-requires
-    cast-narrow
-    narrow-requires
-    plan-at-requires-2
-    returns-2)
+least-of-spec = tie.close (tie.spec (λ c κs. (c .before .pre)) rise-requires returns narrow-requires first-at-requires returns-2)

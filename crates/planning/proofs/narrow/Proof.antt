@@ -1,30 +1,25 @@
-use Rattle.planning.specs.Derived.{Kept, Between}
-use Rattle.rules.specs.Table.{Problem}
-use Rattle.lent.specs.Lent.{Listed}
+use Rattle.planning.specs.Derived.{Kept, Held}
+use Rattle.planning.proofs.Laws.{kept-refl, kept-trans, kept-back, served-to, held-to}
 use Prim.Native.Nat.{_-_, _≤_}
 use native.Mathlib.Omega.{arith}
 use mathlib.Core.Path.{_≡_}
-use mathlib.Core.Logic.{⊎-elim}
 use Rattle.planning.proofs.narrow.Statement.{statement}
 use Rattle.planning.proofs.narrow.Tie as tie
 
 abbrev Inv-loop : tie.InvT-loop
-Inv-loop t₀ top out₀ low₀ high₀ t out low high = (low ≤ high) × (high ≤ top) × Kept t₀ t × ((P : Problem) → Listed t₀ P → Between P 0 top → Between P low high)
+Inv-loop t₀ from top out₀ low₀ high₀ t out low high = Kept t₀ t × Held t₀ low high out × (high ≤ top)
 
 abbrev μ-loop : tie.MeasureT-loop
-μ-loop t₀ top out₀ low₀ high₀ t out low high = high - low
+μ-loop t₀ from top out₀ low₀ high₀ t out low high = high - low
 
 halve-requires : tie.Need-halve-requires Inv-loop μ-loop
-halve-requires c κs = let s = (c .before .before .before .before .pre) in let i = c .before .before .before .loop .inv in (record { spanned = s .spanned; listed = i .2 (s .spanned) (s .listed); between = i .3 (s .spanned) (s .listed) (s .between); short = omega (arith, s .short, i .1) }, c .before .before .loop-test .taken)
-
-loop-less : tie.Need-loop-less Inv-loop μ-loop
-loop-less c = let d = c .halve .ensures in ⊎-elim (λ h. omega (arith, d .within, d .top)) (λ h. omega (arith, d .within, d .bottom)) (d .less)
+halve-requires c κs = (served-to (c .before .before .before .loop .inv .0) (c .before .before .before .before .pre .0) (c .before .before .before .loop .inv .2), held-to (c .before .before .before .loop .inv .0) (c .before .before .before .loop .inv .1), c .before .before .loop-test .taken)
 
 loop-again : tie.Need-loop-again Inv-loop μ-loop
-loop-again c = let d = c .halve .ensures in let i = c .before .before .before .before .loop .inv in (d .within, omega (arith, d .top, i .1), (λ P t. d .kept P (i .2 P t)), λ P t b. d .each P (i .2 P t) (i .3 P t b))
+loop-again c = let d = c .halve .ensures in let i = c .before .before .before .before .loop .inv in (kept-trans (i .0) (d .kept), held-to (kept-back (i .0)) (d .held), omega (arith, d .top, i .2))
 
 returns : tie.Need-returns Inv-loop μ-loop
-returns c = let i = c .before .loop .inv in let e : c .before .loop .high ≡ c .before .loop .low = omega (arith, i .0) in record { each = λ P t b. (let w = i .3 P t b in record { none = w .none; some = rw e at (w .some) }); within = omega (arith, i .0, i .1); kept = i .2 }
+returns c = let i = c .before .loop .inv in let e : c .before .loop .high ≡ c .before .loop .low = omega (arith, i .1 .within) in record { held = rw e at (i .1); within = omega (arith, i .1 .within, i .2); kept = i .0 }
 
 pub narrow-spec : {M : Type 1} → statement M
-narrow-spec = tie.close (tie.spec Inv-loop μ-loop (λ c. (omega arith, omega arith, (λ P t. t), λ P t b. b)) halve-requires loop-less loop-again returns)
+narrow-spec = tie.close (tie.spec Inv-loop μ-loop (λ c. (kept-refl _, c .pre .1, omega arith)) halve-requires (λ c. c .halve .ensures .less) loop-again returns)
