@@ -6,13 +6,13 @@ ghost use Rattle.facts.specs.Facts.{has};
 ghost use Rattle.rules.specs.Estimates.{plus, cost, Estimates};
 ghost use Rattle.tables.specs.Tables.{problem};
 ghost use Rattle.entries.specs.Entries.{entry};
-ghost use Rattle.estimates.specs.Earliest.{greatest, Costs, Rounds, Earliest};
+ghost use Rattle.estimates.specs.Earliest.{greatest, Costs, Dearest, Rounds, Earliest};
 use tables::Answer;
 use tables::Ask;
 use tables::Loaded;
 
 // An estimate with a duration added; 65,535 stays.
-fn plus(e: u16, d: u16) -> u16
+pub fn plus(e: u16, d: u16) -> u16
     ensures { λ r. ⌜ r ≡ plus e d ⌝ }
 {
     let sum = entries::wide(e) + entries::wide(d);
@@ -92,6 +92,14 @@ fn greatest(conditions: u64, costs: [u16; 64]) -> u16
         most = entries::higher(one, most);
     }
     most
+}
+
+// What a word of facts costs: the greatest of their costs.
+pub fn dearest(l: Loaded, q: Ask, est: [u16; 24], w: u64) -> u16
+    requires { ⌜ q .jobs ≤ 24 ⌝ }
+    ensures { λ r. ⌜ Dearest (problem l q) (entry est) w r ⌝ }
+{
+    greatest(w, costs(l, q, est))
 }
 
 // Each job's estimate from the present ones.

@@ -43,7 +43,7 @@ room-falls s r b m l e k = omega (arith, sum-more (λ j. 2 ^ 32 - view r .lo j) 
 
 module _ {s L : List ℕ} {a b : ℕ} (v : Violated s L a b) where
   after : (P : Search) → Lent L P → (Q : Plan) → Left P (view s) Q → view s .lo a + stepOf L a ≤ Q b
-  after P e Q l = omega (arith, rules.push P (e .listed .wf) (view s) a b (v .inside) (v .order) Q l (l .fits .stays .inside b (v .there)), e .listed .steps a (v .first))
+  after P e Q l = omega (arith, rules.push P (e .listed .wf) (view s) a b _ (rules.own-wait P (e .listed .wf) (view s) a b) (v .inside) (v .order) Q l (l .fits .stays .inside b (v .there)), e .listed .steps a (v .first))
 
   pub raise-dead : view s .hi b < view s .lo a + stepOf L a → Raised L s s false
   raise-dead h = record {

@@ -3,13 +3,14 @@
 use mathlib.Core.Path.{_≡_, sym}
 use mathlib.Core.Logic.{_≢_}
 use mathlib.Core.List.{List}
-use Prim.Native.Nat.{ℕ, _+_, _%_, _<_}
+use Prim.Native.Nat.{ℕ, _+_, _*_, _%_, _<_}
 use native.Mathlib.Omega.{arith}
 use lib.ListN.{getD}
 use lib.Seq.{getD-set-same, getD-set-other}
 use Rattle.rules.specs.Table.{Problem}
+use Rattle.states.specs.State.{Search, Spaced}
 use Rattle.cells.specs.View.{Sets}
-use Rattle.lent.specs.Lent.{Listed, Lent}
+use Rattle.lent.specs.Lent.{waitOf, Listed, Lent}
 
 -- the lists are those of the same problems where all but the bound is the same
 pub rebound : {L K : List ℕ} → ((i : ℕ) → i ≢ 227 → getD K i 0 ≡ getD L i 0) → (P : Problem) → Listed L P → Listed K P
@@ -26,9 +27,17 @@ rebound same P t = record {
   clash = λ a b l. rw (same (a + 178) (λ e. omega arith)) (t .clash a b l);
   meets = λ a b l m. rw (same (a + 178) (λ e. omega (arith, t .few))) (t .meets a b l m);
   early = λ c Q v j i. rw (same (j + 202) (λ e. omega (arith, t .few, i .below))) (t .early c Q v j i);
+  apart = λ a l. (let x = t .apart a l in record {
+    starts = λ c Q v ia b ib o. rw (same (25 * a + b + 228) (λ e. omega arith)) (x .starts c Q v ia b ib o);
+    ends = λ c Q v ia. rw (same (25 * a + 24 + 228) (λ e. omega arith)) (x .ends c Q v ia);
+  });
   gap = t .gap;
   release = t .release;
 }
+
+-- what the table has of two jobs is their wait
+pub wait-of : {L : List ℕ} {P : Search} → Lent L P → (a b : ℕ) → Spaced a b (waitOf L a b) P
+wait-of t a b Q v i k o = t .listed .apart a (i .below) .starts _ Q v i b k o
 
 module _ {L K : List ℕ} {x : ℕ} (d : Sets L 227 x K) where
   same : (i : ℕ) → i ≢ 227 → getD K i 0 ≡ getD L i 0

@@ -2,11 +2,11 @@
 -- Assumes nothing.
 use mathlib.Core.Path.{_≡_}
 use mathlib.Core.List.{List}
-use Prim.Native.Nat.{ℕ, _+_, _%_, _≤_, _<_, _^_}
+use Prim.Native.Nat.{ℕ, _+_, _*_, _%_, _≤_, _<_, _^_}
 use lib.Dec.{T}
 use lib.ListN.{getD}
 use Rattle.facts.specs.Facts.{has}
-use Rattle.rules.specs.Plans.{Plan, In, interfere, Valid}
+use Rattle.rules.specs.Plans.{Plan, In, Over, interfere, Valid}
 use Rattle.rules.specs.Table.{Problem, InOrder, adds, deletes}
 use Rattle.states.specs.State.{Search}
 
@@ -42,6 +42,10 @@ hitsOf T a = half T (a + 178)
 abbrev pub estOf : List ℕ → ℕ → ℕ
 estOf T a = half T (a + 202)
 
+-- how long after the start of job a job b starts at the earliest, if a is over before it; for 24, how long the plan lasts
+abbrev pub waitOf : List ℕ → ℕ → ℕ → ℕ
+waitOf T a b = half T (25 * a + b + 228)
+
 abbrev pub countOf : List ℕ → ℕ
 countOf T = half T 226
 
@@ -62,9 +66,10 @@ Deletes P p d = (d < P .count) × deletes P d p
 abbrev pub Gives : Problem → ℕ → ℕ → Type 0
 Gives P p a = (a < P .count) × adds P a p
 
--- job a takes x with the gap behind it
-abbrev pub Takes : ℕ → ℕ → Search → Type 0
-Takes a x P = P .problem .duration a + P .problem .gap ≡ x
+-- in every valid plan with job a: where it is over before a job b, that starts x b or more after a; the bound is x 24 or more after it
+pub record Apart (P : Problem) (a : ℕ) (x : ℕ → ℕ) : Type 0 where
+  pub starts : (bound : ℕ) (Q : Plan) → Valid P bound Q → In P Q a → (b : ℕ) → In P Q b → Over P Q a b → Q a + x b ≤ Q b
+  pub ends : (bound : ℕ) (Q : Plan) → Valid P bound Q → In P Q a → Q a + x 24 ≤ bound
 
 -- all but the bound is the problem's; no gap and no releases here
 pub record Listed (L : List ℕ) (P : Problem) : Type 0 where
@@ -80,6 +85,7 @@ pub record Listed (L : List ℕ) (P : Problem) : Type 0 where
   pub clash : (a b : ℕ) → a < 24 → T (has (hitsOf L a) b) → T (interfere P a b)
   pub meets : (a b : ℕ) → a < P .count → b < P .count → T (interfere P a b) → T (has (hitsOf L a) b)
   pub early : (bound : ℕ) (Q : Plan) → Valid P bound Q → (j : ℕ) → In P Q j → estOf L j ≤ Q j
+  pub apart : (a : ℕ) → a < P .count → Apart P a (waitOf L a)
   pub gap : P .gap ≡ 0
   pub release : (j : ℕ) → P .release j ≡ 0
 

@@ -1,13 +1,13 @@
 // The problem of a search as one lent table: what stands where, and how it is read.
 ghost use mathlib.Core.Path.{_≡_};
-ghost use Prim.Native.Nat.{_≤_, _<_, _%_, _^_};
+ghost use Prim.Native.Nat.{_+_, _*_, _≤_, _<_, _%_, _^_};
 ghost use lib.ListN.{length};
 ghost use Rattle.facts.specs.Facts.{has};
 ghost use Rattle.facts.specs.Least.{least};
 ghost use Rattle.cells.specs.View.{Sets};
-ghost use Rattle.lent.specs.Lent.{wantsOf, openingOf, addersOf, killersOf, stepOf, hitsOf, countOf, boundOf, estOf};
+ghost use Rattle.lent.specs.Lent.{wantsOf, openingOf, addersOf, killersOf, stepOf, hitsOf, countOf, boundOf, estOf, waitOf};
 
-pub type Tables = [u64; 228];
+pub type Tables = [u64; 828];
 
 // The lower half of a word.
 fn low(x: u64) -> u32
@@ -78,6 +78,14 @@ pub fn est(t: &Tables, a: usize) -> u32
     low(t[a + 202])
 }
 
+// How long after the start of job a job b starts at the earliest if a is over before it; for 24 how long the plan lasts.
+pub fn wait(t: &Tables, a: usize, b: usize) -> u32
+    requires { ⌜ (a < 24) × (b ≤ 24) ⌝ }
+    ensures { λ r. ⌜ r ≡ waitOf (now (t .entry)) a b ⌝ }
+{
+    low(t[25 * a + b + 228])
+}
+
 // How many jobs there are.
 pub fn count(t: &Tables) -> usize
     ensures { λ r. ⌜ r ≡ countOf (now (t .entry)) ⌝ }
@@ -98,6 +106,14 @@ fn put(t: &mut [u64], i: usize, x: u64)
     ensures { λ _. ⌜ Sets (now (t .entry)) i x (now (t .exit)) ⌝ }
 {
     t[i] = x;
+}
+
+// The wait of a and b is x.
+pub fn put_wait(t: &mut Tables, a: usize, b: usize, x: u64)
+    requires { ⌜ (a < 24) × (b ≤ 24) ⌝ }
+    ensures { λ _. ⌜ Sets (now (t .entry)) (25 * a + b + 228) x (now (t .exit)) ⌝ }
+{
+    put(t, 25 * a + b + 228, x);
 }
 
 // The bound is x.

@@ -2,9 +2,9 @@
 ghost use mathlib.Core.Path.{_≡_};
 ghost use mathlib.Core.Bool.{true};
 ghost use Prim.Native.Nat.{_<_};
-ghost use Rattle.states.specs.State.{Search, Dead};
+ghost use Rattle.states.specs.State.{Search, Spaced, Dead};
 ghost use Rattle.cells.specs.View.{view, Prunes, Says, Any, From};
-ghost use Rattle.lent.specs.Lent.{Takes, Lent};
+ghost use Rattle.lent.specs.Lent.{Lent};
 ghost use Rattle.orders.specs.Order.{Clashes, Tills};
 use cells::State;
 use lent::Tables;
@@ -34,9 +34,9 @@ pub fn till(s: &mut State, j: usize, x: u32)
 }
 
 // a is over before b and a is inside: b starts late enough, or is out.
-fn push(s: &mut State, a: usize, b: usize, step: u32)
+fn push(s: &mut State, a: usize, b: usize, wait: u32)
     requires { ⌜ (a < 24) × (b < 24) ⌝ }
-    ensures { λ _. ⌜ Prunes (Takes a step) (now (s .entry)) (now (s .exit)) ⌝ }
+    ensures { λ _. ⌜ Prunes (Spaced a b wait) (now (s .entry)) (now (s .exit)) ⌝ }
 {
     if !cells::sure(s, a, b) {
         return;
@@ -44,14 +44,14 @@ fn push(s: &mut State, a: usize, b: usize, step: u32)
     if !cells::inside(s, a) {
         return;
     }
-    let x = cells::sum(cells::lo(s, a), step);
+    let x = cells::sum(cells::lo(s, a), wait);
     from(s, b, x);
 }
 
 // a is over before b and b is inside: a starts early enough, or is out.
-fn pull(s: &mut State, a: usize, b: usize, step: u32)
+fn pull(s: &mut State, a: usize, b: usize, wait: u32)
     requires { ⌜ (a < 24) × (b < 24) ⌝ }
-    ensures { λ _. ⌜ Prunes (Takes a step) (now (s .entry)) (now (s .exit)) ⌝ }
+    ensures { λ _. ⌜ Prunes (Spaced a b wait) (now (s .entry)) (now (s .exit)) ⌝ }
 {
     if !cells::sure(s, a, b) {
         return;
@@ -60,19 +60,19 @@ fn pull(s: &mut State, a: usize, b: usize, step: u32)
         return;
     }
     let y = cells::hi(s, b);
-    if y < step {
+    if y < wait {
         cells::put_barred(s, a);
         return;
     }
-    till(s, a, y - step);
+    till(s, a, y - wait);
 }
 
 // The windows keep a from being over before b.
-fn far(s: &mut State, a: usize, b: usize, step: u32)
+fn far(s: &mut State, a: usize, b: usize, wait: u32)
     requires { ⌜ (a < 24) × (b < 24) ⌝ }
-    ensures { λ _. ⌜ Prunes (Takes a step) (now (s .entry)) (now (s .exit)) ⌝ }
+    ensures { λ _. ⌜ Prunes (Spaced a b wait) (now (s .entry)) (now (s .exit)) ⌝ }
 {
-    if cells::wide(cells::hi(s, b)) < cells::sum(cells::lo(s, a), step) {
+    if cells::wide(cells::hi(s, b)) < cells::sum(cells::lo(s, a), wait) {
         cells::put_never(s, a, b);
     }
 }
@@ -119,16 +119,16 @@ fn pair(s: &mut State, a: usize, b: usize, t: &Tables)
     requires { ⌜ (a < 24) × (b < 24) ⌝ }
     ensures { λ _. ⌜ Prunes (Lent (now (t .entry))) (now (s .entry)) (now (s .exit)) ⌝ }
 {
-    let step = lent::step(t, a);
-    push(s, a, b, step);
-    pull(s, a, b, step);
-    far(s, a, b, step);
+    let wait = lent::wait(t, a, b);
+    push(s, a, b, wait);
+    pull(s, a, b, wait);
+    far(s, a, b, wait);
     orders(s, a, b, cells::has(lent::hits(t, a), b));
     clash(s, a, b);
 }
 
 // Of a pair in order: something is missing that follows from it. Any answer is right; this one saves work.
-fn strains(s: &State, a: usize, b: usize, step: u32) -> bool
+fn strains(s: &State, a: usize, b: usize, wait: u32) -> bool
     requires { ⌜ (a < 24) × (b < 24) ⌝ }
 {
     if !cells::never(s, b, a) {
@@ -137,11 +137,11 @@ fn strains(s: &State, a: usize, b: usize, step: u32) -> bool
     if cells::never(s, a, b) {
         return true;
     }
-    let early = cells::wide(cells::lo(s, b)) < cells::sum(cells::lo(s, a), step);
+    let early = cells::wide(cells::lo(s, b)) < cells::sum(cells::lo(s, a), wait);
     if early & cells::inside(s, a) {
         return true;
     }
-    let late = cells::wide(cells::hi(s, b)) < cells::sum(cells::hi(s, a), step);
+    let late = cells::wide(cells::hi(s, b)) < cells::sum(cells::hi(s, a), wait);
     late & cells::inside(s, b)
 }
 
@@ -149,12 +149,12 @@ fn strains(s: &State, a: usize, b: usize, step: u32) -> bool
 fn stirs(s: &State, a: usize, b: usize, t: &Tables) -> bool
     requires { ⌜ (a < 24) × (b < 24) ⌝ }
 {
-    let step = lent::step(t, a);
+    let wait = lent::wait(t, a, b);
     if cells::sure(s, a, b) {
-        return strains(s, a, b, step);
+        return strains(s, a, b, wait);
     }
     if !cells::never(s, a, b) {
-        return cells::wide(cells::hi(s, b)) < cells::sum(cells::lo(s, a), step);
+        return cells::wide(cells::hi(s, b)) < cells::sum(cells::lo(s, a), wait);
     }
     if cells::sure(s, b, a) {
         return false;

@@ -10,12 +10,12 @@ use Rattle.facts.proofs.Sets.{has-zero}
 use Rattle.rules.specs.Plans.{Plan}
 use Rattle.states.specs.State.{Search, Has, Good, Fits}
 use Rattle.cells.specs.View.{view, Blank}
-use Rattle.lent.specs.Lent.{Lent, stepOf, boundOf}
+use Rattle.lent.specs.Lent.{Lent, waitOf, boundOf}
 use Rattle.outset.specs.Outset.{Planned}
 
--- a job of a valid plan ends in the bound
-pub in-bound : {L : List ℕ} {P : Search} {Q : Plan} {j step bound : ℕ} → j < 24 → Planned L P Q → Has P Q j → step ≡ stepOf L j → bound ≡ boundOf L → Q j + step ≤ bound
-in-bound {j = j} h e k s b = omega (arith, e .1 .inside j k, e .0 .listed .steps j h, e .0 .listed .gap, e .0 .bound)
+-- from a job of a valid plan on there is time in the bound
+pub in-bound : {L : List ℕ} {P : Search} {Q : Plan} {j rest bound : ℕ} → Planned L P Q → Has P Q j → rest ≡ waitOf L j 24 → bound ≡ boundOf L → Q j + rest ≤ bound
+in-bound {P = P} {Q} {j} e k s b = omega (arith, e .0 .listed .apart j (k .below) .ends (P .bound) Q (e .1) k, e .0 .bound)
 
 pub blank-fits : {L : List ℕ} {P : Search} {Q : Plan} (s : List ℕ) → Lent L P → Blank s 24 → Good P Q → Fits P Q (view s)
 blank-fits s e b g = record {

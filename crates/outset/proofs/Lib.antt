@@ -1,3 +1,4 @@
 pub mod Words
 pub mod First
+pub mod Apart
 pub mod Strong

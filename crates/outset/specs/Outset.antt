@@ -4,20 +4,21 @@ use mathlib.Core.Path.{_≡_}
 use mathlib.Core.Logic.{_↔_}
 use mathlib.Core.Bool.{false}
 use mathlib.Core.List.{List}
-use Prim.Native.Nat.{ℕ, _-_, _%_, _≤_, _<_, _^_}
+use Prim.Native.Nat.{ℕ, _+_, _*_, _-_, _%_, _≤_, _<_, _^_}
 use lib.Dec.{T}
 use lib.ListN.{getD}
 use Rattle.facts.specs.Facts.{has}
-use Rattle.rules.specs.Table.{Problem}
+use Rattle.rules.specs.Table.{Problem, InOrder}
 use Rattle.rules.specs.Plans.{Plan, interfere, Valid}
 use Rattle.rules.specs.Order.{NoPlan}
 use Rattle.tables.specs.Tables.{problem}
 use Rattle.tables.specs.declared.Loaded.{Loaded}
 use Rattle.tables.specs.declared.Ask.{Ask}
+use Rattle.entries.specs.Entries.{entry}
 use Rattle.reach.specs.Rows.{FitIn}
 use Rattle.states.specs.State.{Search, Good, Fits}
 use Rattle.cells.specs.View.{view}
-use Rattle.lent.specs.Lent.{Cols, Listed, Lent}
+use Rattle.lent.specs.Lent.{Cols, waitOf, Apart, Listed, Lent}
 use Rattle.outset.specs.declared.Outset.{Outset}
 
 -- ── words of jobs ──
@@ -53,6 +54,16 @@ Stands l q est i x =
 -- the first n places of the table L
 abbrev pub Lists : Loaded → Ask → (est L : List ℕ) (n : ℕ) → Type 0
 Lists l q est L n = (i : ℕ) → i < n → Stands l q est i (getD L i 0)
+
+-- the waits of job a are the first n numbers of the row, and what stands before them is as it was
+pub record RowPut (row : List ℕ) (a n : ℕ) (L K : List ℕ) : Type 0 where
+  pub new : (b : ℕ) → b < n → waitOf K a b ≡ entry row b
+  pub old : (i : ℕ) → i < 25 * a + 228 → getD K i 0 ≡ getD L i 0
+
+-- the waits of the first n jobs are so in every valid plan, and the words before all waits are as they were
+pub record WaitsPut (P : Problem) (n : ℕ) (L K : List ℕ) : Type 0 where
+  pub apart : InOrder P → (a : ℕ) → a < n → Apart P a (waitOf K a)
+  pub old : (i : ℕ) → i < 228 → getD K i 0 ≡ getD L i 0
 
 -- ── where a job may begin ──
 

@@ -6,7 +6,7 @@ ghost use Rattle.tables.specs.Tables.{problem};
 ghost use Rattle.states.specs.State.{Search};
 ghost use Rattle.cells.specs.View.{Says};
 ghost use Rattle.lent.specs.Lent.{Cols, Lent};
-ghost use Rattle.outset.specs.Outset.{Among, Hit, Stands, Lists, Waits, AllWait, FitsAll, Planned, SetsOut};
+ghost use Rattle.outset.specs.Outset.{Among, Hit, Stands, Lists, RowPut, WaitsPut, Waits, AllWait, FitsAll, Planned, SetsOut};
 use cells::State;
 use lent::Tables;
 use reach::Pairs;
@@ -67,7 +67,7 @@ fn hits_of(l: Loaded, q: Ask, a: usize) -> u32
     w
 }
 
-// What stands at place i of the search's table; the bound is put in later.
+// What stands at place i of the search's table; waits and bound are put in later.
 fn entry(l: Loaded, q: Ask, est: [u16; 24], i: usize) -> u64
     ensures { λ r. ⌜ Stands l q est i r ⌝ }
 {
@@ -100,18 +100,40 @@ fn entry(l: Loaded, q: Ask, est: [u16; 24], i: usize) -> u64
     q.jobs as u64
 }
 
-// The table of the search, but for the bound.
+// The table of the search, but for the waits and the bound.
 fn listed(l: Loaded, q: Ask, est: [u16; 24]) -> Tables
     ensures { λ r. ⌜ Lists l q est r 228 ⌝ }
 {
-    let mut t = [0u64; 228];
+    let mut t = [0u64; 828];
     for i in 0..228 {
         t[i] = entry(l, q, est, i);
     }
     t
 }
 
-// Job j from its estimate to the bound less its duration, or out.
+// The waits of job a.
+fn put_row(t: &mut Tables, a: usize, row: [u16; 25])
+    requires { ⌜ a < 24 ⌝ }
+    ensures { λ _. ⌜ RowPut row a 25 (now (t .entry)) (now (t .exit)) ⌝ }
+{
+    for b in 0..25 {
+        lent::put_wait(t, a, b, row[b] as u64);
+    }
+}
+
+// The waits of all jobs.
+fn put_waits(t: &mut Tables, l: Loaded, q: Ask)
+    requires { ⌜ q .jobs ≤ 24 ⌝ }
+    ensures { λ _. ⌜ WaitsPut (problem l q) (q .jobs) (now (t .entry)) (now (t .exit)) ⌝ }
+{
+    let n = q.jobs;
+    for a in 0..n {
+        let row = distances::row(l, q, a);
+        put_row(t, a, row);
+    }
+}
+
+// Job j from its estimate to the bound less the time that the plan lasts from there, or out.
 fn root_job(s: &mut State, j: usize, t: &Tables)
     requires { ⌜ j < 24 ⌝ }
     ensures { λ _. ⌜ Says (Planned (now (t .entry))) (now (s .entry)) (now (s .exit)) ⌝ }
@@ -120,13 +142,13 @@ fn root_job(s: &mut State, j: usize, t: &Tables)
         cells::put_barred(s, j);
         return;
     }
-    let dur = lent::step(t, j);
+    let rest = lent::wait(t, j, 24);
     let bound = lent::bound(t);
-    if bound < dur {
+    if bound < rest {
         cells::put_barred(s, j);
         return;
     }
-    orders::till(s, j, bound - dur);
+    orders::till(s, j, bound - rest);
     orders::from(s, j, cells::wide(lent::est(t, j)));
 }
 
@@ -172,6 +194,7 @@ pub fn set_out(l: Loaded, q: Ask) -> Outset
     let table = reach::e_table(l, q.jobs, s);
     let words = table.conditions;
     let est = all_wait(s, words, estimates::estimate_all(table, q));
-    let tables = listed(table, q, est);
+    let mut tables = listed(table, q, est);
+    put_waits(&mut tables, table, q);
     Outset { tables, goals }
 }

@@ -15,13 +15,14 @@ use Rattle.facts.proofs.Sets.{has-zero}
 use Rattle.facts.proofs.Walks.{Done, done-next, done-map}
 use Rattle.rules.specs.Table.{InOrder}
 use Rattle.rules.specs.Supports.{Support, start, nobody, by}
-use Rattle.states.specs.State.{Search, St, More, Dead, Must, Out, Sure, Low, Who, task, goal, Wants, there, late, useless, Killer, MayStart, MayJob, May, Forced, ForcedStart}
+use Rattle.states.specs.State.{Search, Spaced, St, More, Dead, Must, Out, Sure, Low, Who, task, goal, Wants, there, late, useless, Killer, MayStart, MayJob, May, Forced, ForcedStart}
 use Rattle.states.proofs.Keep.{left-back}
 use Rattle.states.proofs.Rules as rules
 use Rattle.cells.specs.View.{view, ins, outs, Prunes, PutsBit, IsIn, IsOut}
 use Rattle.cells.proofs.Changes.{says, follows}
-use Rattle.lent.specs.Lent.{Cols, Deletes, wantsOf, addersOf, killersOf, stepOf, Lent}
+use Rattle.lent.specs.Lent.{Cols, Deletes, wantsOf, addersOf, killersOf, waitOf, Lent}
 use Rattle.lent.specs.Consumers.{who}
+use Rattle.lent.proofs.Laws.{wait-of}
 use Rattle.lent.proofs.Consumers.{who-job, other-who, wants-of}
 use Rattle.supports.specs.Supports.{Danger, Candidate, Sight, NoMay}
 use Rattle.prune.specs.Prune.{NoneLeft, Lost, Killers, Spared, Begun, Single, LeastOf, Told, Awaits, OnlyOne, OnlyStart}
@@ -78,24 +79,23 @@ module _ {P : Search} (wf : InOrder (P .problem)) {s : List ℕ} {b kills : ℕ}
 pub one-bit : {w r d : ℕ} → Walk 32 w r → r ≡ 0 → d ≡ least (has w) 32 → d < 24 → Single w d
 one-bit k z e l = record { within = omega arith; only = λ h i y. ⊎-elim (λ q. omega arith) (λ q. absurd (has-zero i (subst (λ (v : ℕ). T (has v i)) z q))) (k .rest i y) }
 
--- job a finishes at m or later
-abbrev pub Ends : (s L : List ℕ) (m a : ℕ) → Type 0
-Ends s L m a = a < 24 → m ≤ view s .lo a + stepOf L a
+-- behind job a, b starts at m or later
+abbrev pub Ends : (s L : List ℕ) (b m a : ℕ) → Type 0
+Ends s L b m a = a < 24 → m ≤ view s .lo a + waitOf L a b
 
-pub least-next : (s L : List ℕ) {w v v' d m r : ℕ} → Done (Ends s L m) w v → Walk 32 v v' → d ≡ least (has v) 32 → (r ≤ m) × Ends s L r d → Done (Ends s L r) w v'
-least-next s L {r = r} f k e x = done-next (done-map (λ a g l. le-trans (x .0) (g l)) f) k (subst (λ (a : ℕ). Ends s L r a) e (x .1))
+pub least-next : (s L : List ℕ) (b : ℕ) {w v v' d m r : ℕ} → Done (Ends s L b m) w v → Walk 32 v v' → d ≡ least (has v) 32 → (r ≤ m) × Ends s L b r d → Done (Ends s L b r) w v'
+least-next s L b {r = r} f k e x = done-next (done-map (λ a g l. le-trans (x .0) (g l)) f) k (subst (λ (a : ℕ). Ends s L b r a) e (x .1))
 
 -- ── from candidates to a forced support ──
 
-pub awaits-low : {P : Search} {L s : List ℕ} {b w r : ℕ} → InOrder (P .problem) → Awaits L s b w P → b < 24 → LeastOf s L w r → Low P (view s) b r
+pub awaits-low : {P : Search} {L s : List ℕ} {b w r : ℕ} → InOrder (P .problem) → Awaits L s b w P → b < 24 → LeastOf s L w b r → Low P (view s) b r
 awaits-low {P} {L} {s} {b} {w} {r} wf x l f =
     let t = x .told in
-    let k = x .lent .listed in
-    rules.waits P wf (view s) b (t .p) r
+    rules.waits P wf (view s) b (t .p) r (λ a. waitOf L a b)
     (subst (λ (v : Who). Wants P v (t .p)) (who-job b l) (t .wants))
     (subst (λ (v : Who). MayStart P (view s) (t .p) v → ⊥) (who-job b l) (x .late))
-    (subst (λ (v : Who). (a : ℕ) → MayJob P (view s) (t .p) v a → r ≤ view s .lo a + P .problem .duration a + P .problem .gap) (who-job b l)
-    (λ a m. (let h : a < 24 = omega (arith, m .below, k .few) in omega (arith, f a h (t .all a m), k .steps a h))))
+    (subst (λ (v : Who). (a : ℕ) → MayJob P (view s) (t .p) v a → Spaced a b (waitOf L a b) P × (r ≤ view s .lo a + waitOf L a b)) (who-job b l)
+    (λ a m. (wait-of (x .lent) a b, f a (omega (arith, m .below, x .lent .listed .few)) (t .all a m))))
 
 no-bit : {w : ℕ} (a : ℕ) → w ≡ 0 → T (has w a) → ⊥
 no-bit a e h = has-zero a (subst (λ (v : ℕ). T (has v a)) e h)

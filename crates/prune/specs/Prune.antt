@@ -8,7 +8,7 @@ use Rattle.facts.specs.Facts.{has}
 use Rattle.rules.specs.Table.{deletes}
 use Rattle.states.specs.State.{Search, Dead, Forced, ForcedStart, there, Wants, MayStart}
 use Rattle.cells.specs.View.{view}
-use Rattle.lent.specs.Lent.{stepOf, Lent}
+use Rattle.lent.specs.Lent.{waitOf, Lent}
 use Rattle.lent.specs.Consumers.{who}
 use Rattle.supports.specs.Supports.{Candidate, NoMay}
 
@@ -45,8 +45,8 @@ pub record Single (w r : ℕ) : Type 0 where
   pub only : r < 24 → (i : ℕ) → T (has w i) → i ≡ r
 
 -- every job of w that is one finishes at r or later
-abbrev pub LeastOf : (s L : List ℕ) (w r : ℕ) → Type 0
-LeastOf s L w r = (a : ℕ) → a < 24 → T (has w a) → r ≤ view s .lo a + stepOf L a
+abbrev pub LeastOf : (s L : List ℕ) (w b r : ℕ) → Type 0
+LeastOf s L w b r = (a : ℕ) → a < 24 → T (has w a) → r ≤ view s .lo a + waitOf L a b
 
 -- b wants a fact, and all its candidates that are jobs are in w
 pub record Told (s : List ℕ) (b w : ℕ) (P : Search) : Type 0 where

@@ -4,7 +4,7 @@ ghost use Prim.Native.Nat.{ℕ, _+_, _≤_, _<_};
 ghost use lib.Dec.{T};
 ghost use Rattle.facts.specs.Facts.{has};
 ghost use Rattle.cells.specs.View.{view, Prunes};
-ghost use Rattle.lent.specs.Lent.{wantsOf, stepOf, Lent};
+ghost use Rattle.lent.specs.Lent.{wantsOf, waitOf, Lent};
 ghost use Rattle.prune.specs.Prune.{NoneLeft, Lost, Spared, Begun, Single, LeastOf, Awaits, OnlyOne, OnlyStart};
 use cells::State;
 use lent::Tables;
@@ -131,28 +131,30 @@ fn single(w: u32) -> usize
     a
 }
 
-// The smaller of m and where job a finishes at the earliest.
-fn sooner(s: &State, a: usize, t: &Tables, m: u64) -> u64
-    ensures { λ r. ⌜ (r ≤ m) × (a < 24 → r ≤ view (now (s .entry)) .lo a + stepOf (now (t .entry)) a) ⌝ }
+// The smaller of m and where b may start at the earliest behind job a.
+fn sooner(s: &State, a: usize, b: usize, t: &Tables, m: u64) -> u64
+    requires { ⌜ b ≤ 24 ⌝ }
+    ensures { λ r. ⌜ (r ≤ m) × (a < 24 → r ≤ view (now (s .entry)) .lo a + waitOf (now (t .entry)) a b) ⌝ }
 {
     if 24 <= a {
         return m;
     }
-    let x = cells::sum(cells::lo(s, a), lent::step(t, a));
+    let x = cells::sum(cells::lo(s, a), lent::wait(t, a, b));
     if x < m {
         return x;
     }
     m
 }
 
-// Where the first of the candidates finishes at the earliest.
-fn least_of(s: &State, w: u32, t: &Tables) -> u64
-    ensures { λ r. ⌜ LeastOf (now (s .entry)) (now (t .entry)) w r ⌝ }
+// Where b may start at the earliest behind the first of its candidates.
+fn least_of(s: &State, w: u32, b: usize, t: &Tables) -> u64
+    requires { ⌜ b ≤ 24 ⌝ }
+    ensures { λ r. ⌜ LeastOf (now (s .entry)) (now (t .entry)) w b r ⌝ }
 {
     let mut m: u64 = 8589934592;
     let mut v = w;
     while v != 0 {
-        m = sooner(s, cells::lowest(v), t, m);
+        m = sooner(s, cells::lowest(v), b, t, m);
         v = cells::rest(v);
     }
     m
@@ -164,7 +166,7 @@ fn wait(s: &mut State, b: usize, w: u32, t: &Tables)
     ensures { λ _. ⌜ Prunes (Awaits (now (t .entry)) (now (s .entry)) b w) (now (s .entry)) (now (s .exit)) ⌝ }
 {
     if b < 24 {
-        let x = least_of(s, w, t);
+        let x = least_of(s, w, b, t);
         orders::from(s, b, x);
     }
 }

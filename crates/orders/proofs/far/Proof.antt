@@ -14,5 +14,5 @@ far-spec =
     (λ c κs. search needs)
     (λ c κs. search needs)
     (λ c κs. search needs)
-    (λ c. says (c .put-never .ensures) (λ P wf e. rules.far P wf _ _ _ (omega arith)))
+    (λ c. says (c .put-never .ensures) (λ P wf e. rules.far P wf _ _ _ _ e (omega arith)))
     (λ c. none))

@@ -1,6 +1,7 @@
 use Rattle.cells.proofs.Changes.{then, under}
 use Rattle.cells.proofs.Tests.{same}
 use native.Mathlib.Omega.{arith}
+use Rattle.lent.proofs.Laws.{wait-of}
 use borrow.Author.Needs.{needs}
 use Rattle.orders.proofs.pair.Statement.{statement}
 use Rattle.orders.proofs.pair.Tie as tie
@@ -8,12 +9,12 @@ use Rattle.orders.proofs.pair.Tie as tie
 returns : tie.Need-returns
 returns c =
     let a = c .before .before .before .before .before .before .before .before .before .before .before .before .before .args in
-    let step = c .before .before .before .before .before .before .before .before .before .before .before .before .step .ensures in
+    let wait = c .before .before .before .before .before .before .before .before .before .before .before .before .wait .ensures in
     let push = c .before .before .before .before .before .before .before .before .before .before .push .ensures in
     let pull = c .before .before .before .before .before .before .before .before .pull .ensures in
     let far = c .before .before .before .before .before .before .far .ensures in
     let hits = c .before .before .before .before .hits .ensures in
-    then (under (λ P wf e. rw step (e .listed .steps (a .a) (omega arith))) (then push (then pull far)))
+    then (under (λ P wf e. rw wait (wait-of e (a .a) (a .b))) (then push (then pull far)))
     (then (under (λ P wf e h. e .listed .clash (a .a) (a .b) (omega arith) (rw hits at (same (c .before .before .before .has .ensures) h))) (c .before .before .orders .ensures))
     (under (λ P wf e. tt) (c .clash .ensures)))
 

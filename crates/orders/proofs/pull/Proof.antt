@@ -10,7 +10,7 @@ returns-3 : tie.Need-returns-3
 returns-3 c =
     let d = c .before .before .before .before .before in
     says (c .put-barred .ensures)
-    (λ P wf e. rules.pull-out P wf _ _ _
+    (λ P wf e. rules.pull-out P wf _ _ _ _ e
     (passed (d .before .inside .ensures) (d .if2 .left))
     (passed (d .before .before .before .before .sure .ensures) (d .before .before .before .if1 .left))
     (omega arith))
@@ -19,7 +19,7 @@ returns-4 : tie.Need-returns-4
 returns-4 c =
     let d = c .before .before .before .before .before in
     say (c .till .ensures .says)
-    (λ P wf e. rules.pull P wf _ _ _ _
+    (λ P wf e. rules.pull P wf _ _ _ _ e _
     (passed (d .before .inside .ensures) (d .if2 .left))
     (passed (d .before .before .before .before .sure .ensures) (d .before .before .before .if1 .left))
     (omega arith))

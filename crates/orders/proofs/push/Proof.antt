@@ -11,7 +11,7 @@ returns-3 c =
     let d = c .before .before .before .before .before in
     let inside = passed (d .before .inside .ensures) (d .if2 .left) in
     let sure = passed (d .before .before .before .before .sure .ensures) (d .before .before .before .if1 .left) in
-    say (c .from .ensures) (λ P wf e Q l k. omega (arith, rules.push P wf _ _ _ inside sure Q l k))
+    say (c .from .ensures) (λ P wf e Q l k. omega (arith, rules.push P wf _ _ _ _ e inside sure Q l k))
 
 pub push-spec : {M : Type 1} → statement M
 push-spec =

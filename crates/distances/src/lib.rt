@@ -1,0 +1,47 @@
+// Distances between jobs: how long after the start of a job another, which it is over before, starts at the earliest.
+ghost use Prim.Native.Nat.{_≤_, _<_};
+ghost use Rattle.rules.specs.Table.{InOrder};
+ghost use Rattle.tables.specs.Tables.{problem};
+ghost use Rattle.entries.specs.Entries.{entry};
+ghost use Rattle.lent.specs.Lent.{Apart};
+ghost use Rattle.distances.specs.Distances.{Lacks, Behind};
+use tables::Ask;
+use tables::Loaded;
+
+// The facts that the word lacks.
+fn lacks(w: u64) -> u64
+    ensures { λ r. ⌜ Lacks w r ⌝ }
+{
+    !w
+}
+
+// An end and each estimate, behind a duration.
+fn behind(dur: u16, est: [u16; 24], end: u16) -> [u16; 25]
+    ensures { λ r. ⌜ Behind dur est end r ⌝ }
+{
+    let mut row = [estimates::plus(dur, end); 25];
+    for b in 0..24 {
+        row[b] = estimates::plus(dur, est[b]);
+    }
+    row
+}
+
+// How long after the start of job a each other job starts at the earliest, if a is over before it; for 24, how long the plan lasts.
+pub fn row(l: Loaded, q: Ask, a: usize) -> [u16; 25]
+    requires { ⌜ (q .jobs ≤ 24) × (a < 24) ⌝ }
+    ensures { λ r. ⌜ (InOrder (problem l q) → Apart (problem l q) a (entry r)) ⌝ }
+{
+    let spared = lacks(l.deletions[a]);
+    let since = Ask {
+        jobs: q.jobs,
+        atoms: q.atoms,
+        opening: spared,
+        goals: q.goals,
+        bound: q.bound,
+        set: q.set,
+        pairs: q.pairs,
+    };
+    let est = estimates::estimate_all(l, since);
+    let end = estimates::dearest(l, since, est, q.goals);
+    behind(l.durations[a], est, end)
+}
