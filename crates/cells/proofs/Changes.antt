@@ -18,8 +18,8 @@ use Rattle.facts.proofs.Sets.{word-with, has-or}
 use Rattle.rules.specs.Plans.{Plan}
 use Rattle.rules.specs.Table.{InOrder}
 use Rattle.states.specs.State.{Search, Left, Fits, More, Keeps}
-use Rattle.states.proofs.Keep.{fits-more, keeps-refl, keeps-trans, more-refl, more-trans}
-use Rattle.cells.specs.View.{Place, ins, outs, sures, nevers, los, his, at, word, view, Prunes, Says, Sets, Puts, PutsBit, IsIn, IsOut, Before, AllBefore, NotBefore, From, Till, Noted, Blank}
+use Rattle.states.proofs.Keep.{left-back, fits-more, keeps-refl, keeps-trans, more-refl, more-trans}
+use Rattle.cells.specs.View.{Place, ins, outs, sures, nevers, los, his, at, word, view, Prunes, Says, NoneLeft, Sets, Puts, PutsBit, IsIn, IsOut, Before, AllBefore, NotBefore, From, Till, Noted, Blank}
 
 -- ── bits ──
 
@@ -193,6 +193,9 @@ under f k = record { more = k .more; keeps = λ P wf e. k .keeps P wf (f P wf e)
 -- one rule after another whose condition follows from the first's
 pub follows : {Ok U : Search → Type 0} {s t u : List ℕ} → Prunes Ok s t → ((P : Search) → Ok P → More (view s) (view t) → U P) → Prunes U t u → Prunes Ok s u
 follows k f m = record { more = more-trans (k .more) (m .more); keeps = λ P wf e. keeps-trans (k .keeps P wf e) (m .keeps P wf (f P e (k .more))) }
+
+pub killed : {s t r : List ℕ} → PutsBit (IsIn 0) ins 0 s t → PutsBit (IsOut 0) outs 0 t r → Prunes (NoneLeft s) s r
+killed {t = t} d e = follows {U = NoneLeft t} (says d (λ P wf h Q l. absurd (h Q l))) (λ P h m Q l. h Q (left-back m l)) (says e (λ P wf h Q l. absurd (h Q l)))
 
 -- ── words of jobs ──
 

@@ -10,7 +10,7 @@ use lib.Dec.{T}
 use Rattle.facts.specs.Facts.{has}
 use Rattle.rules.specs.Plans.{Plan}
 use Rattle.rules.specs.Table.{InOrder}
-use Rattle.states.specs.State.{Search, St, More, Keeps, Fits, Has, Ahead}
+use Rattle.states.specs.State.{Search, St, More, Keeps, Fits, Dead, Has, Ahead}
 
 -- the words: the jobs inside, the jobs barred; of each job those over before it, those not over before it, its window
 pub data Place : Type 0 where
@@ -56,6 +56,10 @@ pub record Says (A : Search → Plan → Type 0) (s r : List ℕ) : Type 0 where
 -- a rule that asks nothing of the problem
 abbrev pub Any : Search → Type 0
 Any P = Unit {0}
+
+-- no plan is left in the state
+abbrev pub NoneLeft : List ℕ → Search → Type 0
+NoneLeft s P = Dead P (view s)
 
 -- one word is another
 pub record Sets (s : List ℕ) (i x : ℕ) (r : List ℕ) : Type 0 where

@@ -4,10 +4,10 @@ ghost use Prim.Native.Nat.{_+_, _≤_, _<_, _^_};
 ghost use lib.Bits.{bitOr};
 ghost use lib.Dec.{T};
 ghost use lib.ListN.{length, getD};
-ghost use Rattle.facts.specs.Facts.{has};
+ghost use Rattle.facts.specs.Facts.{has, Covers, Decides};
 ghost use Rattle.facts.specs.Least.{least};
 ghost use Rattle.facts.specs.Walks.{Walk};
-ghost use Rattle.cells.specs.View.{ins, outs, sures, nevers, los, his, word, view, Noted, Blank, Sets, Puts, PutsBit, IsIn, IsOut, Before, AllBefore, NotBefore, From, Till};
+ghost use Rattle.cells.specs.View.{ins, outs, sures, nevers, los, his, word, view, Noted, Blank, Prunes, NoneLeft, Sets, Puts, PutsBit, IsIn, IsOut, Before, AllBefore, NotBefore, From, Till};
 
 pub type State = [u32; 100];
 
@@ -20,7 +20,7 @@ pub fn has(w: u32, j: usize) -> bool
 }
 
 // w with bit j set.
-fn with(w: u32, j: usize) -> u32
+pub fn with(w: u32, j: usize) -> u32
     requires { ⌜ j < 24 ⌝ }
     ensures { λ r. ⌜ r ≡ bitOr w (2 ^ j) ⌝ }
 {
@@ -38,6 +38,13 @@ pub fn with_if(w: u32, j: usize, flag: bool) -> u32
         return w;
     }
     with(w, j)
+}
+
+// Every bit of w is in v.
+pub fn within(w: u32, v: u32) -> bool
+    ensures { λ r. ⌜ Decides r (Covers v w) ⌝ }
+{
+    facts::covers(wide(v), wide(w))
 }
 
 // The lowest bit of w, or 32.
@@ -236,4 +243,12 @@ pub fn put_hi(s: &mut State, j: usize, x: u32)
     ensures { λ _. ⌜ Puts (Till j x) (his j) x (now (s .entry)) (now (s .exit)) ⌝ }
 {
     put(s, 4 * j + 7, x);
+}
+
+// No plan is left: a job is inside and barred.
+pub fn kill(s: &mut State)
+    ensures { λ _. ⌜ Prunes (NoneLeft (now (s .entry))) (now (s .entry)) (now (s .exit)) ⌝ }
+{
+    put_inside(s, 0);
+    put_barred(s, 0);
 }

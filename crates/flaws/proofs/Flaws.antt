@@ -22,7 +22,7 @@ use Rattle.lent.proofs.Consumers.{wants-in, wants-of}
 use Rattle.supports.specs.Supports.{Candidate, Danger, Unsettled, NoMay, Sight, Lack}
 use Rattle.flaws.specs.declared.Choice.{Choice}
 use Rattle.flaws.specs.declared.Scene.{Scene}
-use Rattle.flaws.specs.Flaw.{fineChoice, deadChoice, jobChoice, pairChoice, parted, FreeJob, FreePair, Picks, Alike, Sooner, Urgent, Pending, Seen, NoJob, OneLost, AllSafe, Clash}
+use Rattle.flaws.specs.Flaw.{fineChoice, deadChoice, jobChoice, pairChoice, parted, FreeJob, FreePair, Picks, Alike, Eased, Sooner, Urgent, Pending, Seen, NoJob, OneLost, AllSafe, Clash}
 
 -- ── choices ──
 
@@ -66,6 +66,13 @@ module _ {s : List ℕ} where
   pub pick-urgent : {X Y N : Type 0} {best c r : Choice} → Urgent best c r → Picks s X N best → Picks s Y N c → Picks s (X × Y) N r
   pick-urgent (inl (e, n)) q t = rw e (pick-not n t)
   pick-urgent (inr (e, h)) q t = rw e (record { small = q .small; fine = λ z. (q .fine z, t .fine (h z)); dead = q .dead; job = q .job; pair = q .pair })
+
+  pub pick-eased : {X N : Type 0} {c r : Choice} → Eased s c r → Picks s X N c → Picks s X N r
+  pick-eased (inl e) q = rw e q
+  pick-eased (inr (k, e, f)) q = record { small = omega arith; fine = λ z. absurd (omega arith); dead = λ z. absurd (omega arith); job = λ z. absurd (omega arith); pair = λ z. f }
+
+  pub eased-pair : {c p r : Choice} {x y : ℕ} → c .kind ≡ 3 → p ≡ pairChoice x y → Alike p r → FreePair s x y → Eased s c r
+  eased-pair k e a f = let b = rw e at a in inr (k, b .kind, rw (b .x, b .y) f)
 
 -- ── pairs that are free ──
 

@@ -60,6 +60,10 @@ pub record Alike (c r : Choice) : Type 0 where
   pub x : r .x ≡ c .x
   pub y : r .y ≡ c .y
 
+-- the same choice, or of a pair another that is free
+abbrev pub Eased : (s : List ℕ) (c r : Choice) → Type 0
+Eased s c r = (r ≡ c) ⊎ ((c .kind ≡ 3) × (r .kind ≡ 3) × FreePair s (r .x) (r .y))
+
 -- of two candidates one is taken; the first only where it is one
 abbrev pub Sooner : (best c r : Choice) → Type 0
 Sooner best c r = (r ≡ c) ⊎ ((r ≡ best) × (best .kind ≢ 1))

@@ -8,7 +8,7 @@ ghost use Rattle.cells.specs.View.{view};
 ghost use Rattle.lent.specs.Lent.{wantsOf, Lent};
 ghost use Rattle.lent.specs.Consumers.{who, SomeSafe, SafeFor, Ordered, NoFlaw};
 ghost use Rattle.supports.specs.Supports.{Candidate, NoMay};
-ghost use Rattle.flaws.specs.Flaw.{fineChoice, deadChoice, jobChoice, pairChoice, parted, Picks, Alike, Sooner, Urgent, Pending, Seen, NoJob, OneLost, AllSafe, SafeBelow, Clash, RowApart, Apart};
+ghost use Rattle.flaws.specs.Flaw.{fineChoice, deadChoice, jobChoice, pairChoice, parted, Picks, Alike, Eased, Sooner, Urgent, Pending, Seen, NoJob, OneLost, AllSafe, SafeBelow, Clash, RowApart, Apart};
 use cells::State;
 use lent::Tables;
 
@@ -122,7 +122,19 @@ fn slack(s: &State, y: usize, early: u64) -> u64
     last - early
 }
 
-// A threat ranks by its slack, behind all threats an open condition by its earliest candidate. Any rank is right; this one saves work.
+// The room of two jobs one after the other, in the order that has more.
+fn room(s: &State, x: usize, y: usize, t: &Tables) -> u64
+    requires { ⌜ (x < 24) × (y < 24) ⌝ }
+{
+    let there = slack(s, y, reach(s, x, t));
+    let back = slack(s, x, reach(s, y, t));
+    if there < back {
+        return back;
+    }
+    there
+}
+
+// A threat ranks by its room, behind all threats an open condition by its earliest candidate. Any rank is right; this one saves work.
 fn rank_of(s: &State, b: usize, c: Choice, t: &Tables) -> u64 {
     let x = c.x;
     let y = c.y;
@@ -139,7 +151,7 @@ fn rank_of(s: &State, b: usize, c: Choice, t: &Tables) -> u64 {
     if 24 <= y {
         return 0;
     }
-    slack(s, y, early)
+    room(s, x, y, t)
 }
 
 // Among open conditions the one whose earliest candidate is latest comes first.
@@ -349,6 +361,15 @@ fn mutex_at(s: &State, a: usize, b: usize) -> Choice
     dead()
 }
 
+// Two jobs that interfere, with their rank.
+fn threat(s: &State, a: usize, b: usize, t: &Tables) -> Choice
+    requires { ⌜ a < 24 ⌝ }
+    ensures { λ r. ⌜ ((P : Search) → Clash P a b → Picks (now (s .entry)) (b < 24 → Ordered (now (s .entry)) a b) (Dead P (view (now (s .entry)))) r) ⌝ }
+{
+    let c = mutex_at(s, a, b);
+    ranked(c, rank_of(s, 24, c, t))
+}
+
 // The job a with all that interfere with it.
 fn mutex_row(s: &State, a: usize, t: &Tables) -> Choice
     ensures { λ r. ⌜ ((P : Search) → Lent (now (t .entry)) P → Picks (now (s .entry)) (RowApart (now (s .entry)) (now (t .entry)) a) (Dead P (view (now (s .entry)))) r) ⌝ }
@@ -356,30 +377,50 @@ fn mutex_row(s: &State, a: usize, t: &Tables) -> Choice
     if 24 <= a {
         return fine();
     }
+    let mut best = fine();
     let mut w = lent::hits(t, a) & cells::insides(s);
     while w != 0 {
-        let c = mutex_at(s, a, cells::lowest(w));
-        if c.kind != 0 {
-            return c;
-        }
+        best = urgent(best, threat(s, a, cells::lowest(w), t));
         w = cells::rest(w);
     }
-    fine()
+    best
 }
 
 // All jobs that interfere.
 fn mutexes(s: &State, t: &Tables) -> Choice
     ensures { λ r. ⌜ ((P : Search) → Lent (now (t .entry)) P → Picks (now (s .entry)) (Apart (now (s .entry)) (now (t .entry))) (Dead P (view (now (s .entry)))) r) ⌝ }
 {
+    let mut best = fine();
     let mut w = cells::insides(s);
     while w != 0 {
-        let c = mutex_row(s, cells::lowest(w), t);
-        if c.kind != 0 {
-            return c;
-        }
+        best = urgent(best, mutex_row(s, cells::lowest(w), t));
         w = cells::rest(w);
     }
-    fine()
+    best
+}
+
+// A pair, the other way round where that is open and leaves more room; a condition's candidate stays.
+fn eased(s: &State, c: Choice, t: &Tables) -> Choice
+    ensures { λ r. ⌜ Eased (now (s .entry)) c r ⌝ }
+{
+    let x = c.y;
+    let y = c.x;
+    if c.kind != 3 || 1000000 <= c.rank {
+        return c;
+    }
+    if 24 <= x {
+        return c;
+    }
+    if 24 <= y {
+        return c;
+    }
+    if cells::sure(s, x, y) || cells::never(s, x, y) {
+        return c;
+    }
+    if slack(s, y, reach(s, x, t)) <= slack(s, x, reach(s, y, t)) {
+        return c;
+    }
+    ranked(pair(x, y), c.rank)
 }
 
 // The flaw to repair next.
@@ -388,7 +429,7 @@ pub fn flaw(s: &State, t: &Tables) -> Choice
 {
     let c = consumers(s, t);
     if c.kind != 0 {
-        return c;
+        return eased(s, c, t);
     }
-    mutexes(s, t)
+    eased(s, mutexes(s, t), t)
 }

@@ -31,6 +31,7 @@ rebound same P t = record {
     starts = λ c Q v ia b ib o. rw (same (25 * a + b + 228) (λ e. omega arith)) (x .starts c Q v ia b ib o);
     ends = λ c Q v ia. rw (same (25 * a + 24 + 228) (λ e. omega arith)) (x .ends c Q v ia);
   });
+  leads = λ a l. rw (same (a + 828) (λ e. omega arith)) (t .leads a l);
   gap = t .gap;
   release = t .release;
 }

@@ -8,7 +8,7 @@ use lib.ListN.{getD}
 use Rattle.facts.specs.Facts.{has}
 use Rattle.rules.specs.Plans.{Plan, In, Over, interfere, Valid}
 use Rattle.rules.specs.Table.{Problem, InOrder, adds, deletes}
-use Rattle.states.specs.State.{Search}
+use Rattle.states.specs.State.{Search, Leads}
 
 -- ── places ──
 
@@ -45,6 +45,10 @@ estOf T a = half T (a + 202)
 -- how long after the start of job a job b starts at the earliest, if a is over before it; for 24, how long the plan lasts
 abbrev pub waitOf : List ℕ → ℕ → ℕ → ℕ
 waitOf T a b = half T (25 * a + b + 228)
+
+-- the job that job a leads in the first plan, or 24
+abbrev pub ledOf : List ℕ → ℕ → ℕ
+ledOf T a = half T (a + 828)
 
 abbrev pub countOf : List ℕ → ℕ
 countOf T = half T 226
@@ -86,6 +90,7 @@ pub record Listed (L : List ℕ) (P : Problem) : Type 0 where
   pub meets : (a b : ℕ) → a < P .count → b < P .count → T (interfere P a b) → T (has (hitsOf L a) b)
   pub early : (bound : ℕ) (Q : Plan) → Valid P bound Q → (j : ℕ) → In P Q j → estOf L j ≤ Q j
   pub apart : (a : ℕ) → a < P .count → Apart P a (waitOf L a)
+  pub leads : (a : ℕ) → a < 24 → ledOf L a < 24 → (bound : ℕ) → Leads (record { problem = P; bound = bound }) a (ledOf L a)
   pub gap : P .gap ≡ 0
   pub release : (j : ℕ) → P .release j ≡ 0
 

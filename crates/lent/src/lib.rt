@@ -5,9 +5,9 @@ ghost use lib.ListN.{length};
 ghost use Rattle.facts.specs.Facts.{has};
 ghost use Rattle.facts.specs.Least.{least};
 ghost use Rattle.cells.specs.View.{Sets};
-ghost use Rattle.lent.specs.Lent.{wantsOf, openingOf, addersOf, killersOf, stepOf, hitsOf, countOf, boundOf, estOf, waitOf};
+ghost use Rattle.lent.specs.Lent.{wantsOf, openingOf, addersOf, killersOf, stepOf, hitsOf, countOf, boundOf, estOf, waitOf, ledOf};
 
-pub type Tables = [u64; 828];
+pub type Tables = [u64; 852];
 
 // The lower half of a word.
 fn low(x: u64) -> u32
@@ -86,6 +86,14 @@ pub fn wait(t: &Tables, a: usize, b: usize) -> u32
     low(t[25 * a + b + 228])
 }
 
+// The job that job a leads in the first plan, or 24.
+pub fn led(t: &Tables, a: usize) -> usize
+    requires { ⌜ a < 24 ⌝ }
+    ensures { λ r. ⌜ r ≡ ledOf (now (t .entry)) a ⌝ }
+{
+    low(t[a + 828]) as usize
+}
+
 // How many jobs there are.
 pub fn count(t: &Tables) -> usize
     ensures { λ r. ⌜ r ≡ countOf (now (t .entry)) ⌝ }
@@ -114,6 +122,14 @@ pub fn put_wait(t: &mut Tables, a: usize, b: usize, x: u64)
     ensures { λ _. ⌜ Sets (now (t .entry)) (25 * a + b + 228) x (now (t .exit)) ⌝ }
 {
     put(t, 25 * a + b + 228, x);
+}
+
+// Job a leads n.
+pub fn put_led(t: &mut Tables, a: usize, n: usize)
+    requires { ⌜ a < 24 ⌝ }
+    ensures { λ _. ⌜ Sets (now (t .entry)) (a + 828) n (now (t .exit)) ⌝ }
+{
+    put(t, a + 828, n as u64);
 }
 
 // The bound is x.

@@ -48,3 +48,10 @@ module _ (P : Problem) (few : P .count ≤ 24) (L : List ℕ) where
         (λ m. subst (λ (c : ℕ). Apart P c (waitOf M c)) (sym m) (apart-as few (λ b h. r .new b (omega arith)) (p ok))) (below-suc a n (omega arith));
     old = λ i l. r .old i (omega arith) ∙ f .old i l;
   }
+
+  -- what is put behind all waits leaves them as they are
+  pub waits-old : {K M : List ℕ} {n : ℕ} → n ≤ 24 → WaitsPut P n L K → ((i : ℕ) → i < 828 → getD M i 0 ≡ getD K i 0) → WaitsPut P n L M
+  waits-old h f e = record {
+    apart = λ ok a l. apart-as few (λ b k. ap (λ (y : ℕ). y % 2 ^ 32) (e (25 * a + b + 228) (omega arith))) (f .apart ok a l);
+    old = λ i l. e i (omega arith) ∙ f .old i l;
+  }

@@ -1,4 +1,5 @@
 pub mod Words
 pub mod First
 pub mod Apart
+pub mod Led
 pub mod Strong

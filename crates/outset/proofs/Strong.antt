@@ -24,8 +24,10 @@ use Rattle.reach.proofs.Same.{strong-ok, same-valid}
 use Rattle.reach.proofs.EDeletes.{fit}
 use Rattle.reach.proofs.Alike.{closed-alike}
 use Rattle.reach.proofs.Words.{edone-words}
-use Rattle.lent.specs.Lent.{Cols, Apart, Listed, hitsOf, estOf, waitOf}
-use Rattle.outset.specs.Outset.{Hit, Stands, AllWait, Lists, WaitsPut, SetsOut}
+use Rattle.lent.specs.Lent.{Cols, Apart, Listed, hitsOf, estOf, waitOf, ledOf}
+use Rattle.turns.specs.Checked.{Leader}
+use Rattle.outset.specs.Outset.{Hit, Stands, AllWait, Lists, WaitsPut, LeadsPut, SetsOut}
+use Rattle.outset.proofs.Apart.{waits-old}
 use native.Mathlib.Nat.{add-sub-cancel}
 
 -- ── the lists of a table are those of its problem ──
@@ -37,8 +39,8 @@ module _ (k : Loaded) (q : Ask) (few : q .jobs ≤ 24) (ok : InOrder (problem k 
   begins : (i : ℕ) → i < 24 → estOf L i ≡ getD est i 0
   begins i l = rw (add-sub-cancel i 202) at (t (i + 202) (omega arith) .there (omega arith) .there (omega arith) .there (omega arith) .there (omega arith) .there (omega arith) .there (omega arith) .there (omega arith) .here (omega arith))
 
-  pub listed-of : ((bound : ℕ) (Q : Plan) → Valid (problem k q) bound Q → (i : ℕ) → In (problem k q) Q i → getD est i 0 ≤ Q i) → ((a : ℕ) → a < q .jobs → Apart (problem k q) a (waitOf L a)) → Listed L (problem k q)
-  listed-of early apart = record {
+  pub listed-of : ((bound : ℕ) (Q : Plan) → Valid (problem k q) bound Q → (i : ℕ) → In (problem k q) Q i → getD est i 0 ≤ Q i) → ((a : ℕ) → a < q .jobs → Apart (problem k q) a (waitOf L a)) → ((a : ℕ) → a < 24 → ledOf L a < 24 → Leader k q a (ledOf L a)) → Listed L (problem k q)
+  listed-of early apart leads = record {
     wf = ok;
     few = few;
     count = omega (arith, t 226 (omega arith) .there (omega arith) .there (omega arith) .there (omega arith) .there (omega arith) .there (omega arith) .there (omega arith) .there (omega arith) .there (omega arith));
@@ -52,6 +54,7 @@ module _ (k : Loaded) (q : Ask) (few : q .jobs ≤ 24) (ok : InOrder (problem k 
     meets = λ a b l m h. hit a (omega arith) .at b (omega arith) (m, h);
     early = λ bound Q v i h. omega (arith, begins i (omega (arith, h .below)), early bound Q v i h);
     apart = apart;
+    leads = λ a l h. leads a l h ok;
     gap = refl;
     release = λ i. refl;
   }
@@ -90,16 +93,19 @@ module _ (l : Loaded) (q : Ask) (ok : InOrder (problem l q)) (rows : List ℕ) (
   together : (bound : ℕ) → (FitIn rows (q .goals) 64 → ⊥) → NoPlan P bound
   together bound n z v = n (λ r m g u h. states P ok bound z v (inRows rows) (x .closed) bound r u (v .reached r g) (v .reached u h))
 
-  pub sets-out : (base est L M : List ℕ) (goals : Bool) → q .jobs ≤ 24 → Estimates K (entry base) → AllWait rows (k .conditions) base est 24 → Lists k q est L 228 → WaitsPut K (q .jobs) L M
-      → Decides goals (FitIn rows (q .goals) 64) → SetsOut l q (record { tables = M; goals = goals })
-  sets-out base est L M goals few e w t p g = record {
+  pub sets-out : (base est L M N : List ℕ) (goals : Bool) → q .jobs ≤ 24 → Estimates K (entry base) → AllWait rows (k .conditions) base est 24 → Lists k q est L 228 → WaitsPut K (q .jobs) L M
+      → LeadsPut k q 24 M N → Decides goals (FitIn rows (q .goals) 64) → SetsOut l q (record { tables = N; goals = goals })
+  sets-out base est L M N goals few e w t p f g = record {
     searched = K;
     jobs = refl;
-    listed = listed-of k q few order est M (λ i h. subst (λ (x : ℕ). Stands k q est i x) (sym (p .old i h)) (t i h)) early (p .apart order);
+    listed = listed-of k q few order est N (λ i h. subst (λ (x : ℕ). Stands k q est i x) (sym (waits .old i h)) (t i h)) early (waits .apart order) (f .leads);
     same = λ bound s. subst (λ (Z : Problem). Valid P bound s ↔ Valid Z bound s) (sym is-strong) (same-valid P ok (inRows rows) x D words bound s);
     hopeless = λ h bound. together bound (g .nay h);
   }
     where
+      waits : WaitsPut K (q .jobs) L N
+      waits = waits-old K few L few p (f .old)
+
       -- the conditions of a job of the plan are pairwise reachable, so it waits for its estimate
       early : (bound : ℕ) (Q : Plan) → Valid K bound Q → (i : ℕ) → In K Q i → getD est i 0 ≤ Q i
       early bound Q v i h =

@@ -18,7 +18,8 @@ use Rattle.entries.specs.Entries.{entry}
 use Rattle.reach.specs.Rows.{FitIn}
 use Rattle.states.specs.State.{Search, Good, Fits}
 use Rattle.cells.specs.View.{view}
-use Rattle.lent.specs.Lent.{Cols, waitOf, Apart, Listed, Lent}
+use Rattle.lent.specs.Lent.{Cols, waitOf, ledOf, Apart, Listed, Lent}
+use Rattle.turns.specs.Checked.{Leader}
 use Rattle.outset.specs.declared.Outset.{Outset}
 
 -- ── words of jobs ──
@@ -64,6 +65,11 @@ pub record RowPut (row : List ℕ) (a n : ℕ) (L K : List ℕ) : Type 0 where
 pub record WaitsPut (P : Problem) (n : ℕ) (L K : List ℕ) : Type 0 where
   pub apart : InOrder P → (a : ℕ) → a < n → Apart P a (waitOf K a)
   pub old : (i : ℕ) → i < 228 → getD K i 0 ≡ getD L i 0
+
+-- each of the first n jobs leads the job that the table has for it, if that is one; the words before these are as they were
+pub record LeadsPut (l : Loaded) (q : Ask) (n : ℕ) (L K : List ℕ) : Type 0 where
+  pub leads : (a : ℕ) → a < n → ledOf K a < 24 → Leader l q a (ledOf K a)
+  pub old : (i : ℕ) → i < 828 → getD K i 0 ≡ getD L i 0
 
 -- ── where a job may begin ──
 

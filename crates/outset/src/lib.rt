@@ -6,7 +6,8 @@ ghost use Rattle.tables.specs.Tables.{problem};
 ghost use Rattle.states.specs.State.{Search};
 ghost use Rattle.cells.specs.View.{Says};
 ghost use Rattle.lent.specs.Lent.{Cols, Lent};
-ghost use Rattle.outset.specs.Outset.{Among, Hit, Stands, Lists, RowPut, WaitsPut, Waits, AllWait, FitsAll, Planned, SetsOut};
+ghost use Rattle.turns.specs.Checked.{Follower};
+ghost use Rattle.outset.specs.Outset.{Among, Hit, Stands, Lists, RowPut, WaitsPut, LeadsPut, Waits, AllWait, FitsAll, Planned, SetsOut};
 use cells::State;
 use lent::Tables;
 use reach::Pairs;
@@ -67,7 +68,7 @@ fn hits_of(l: Loaded, q: Ask, a: usize) -> u32
     w
 }
 
-// What stands at place i of the search's table; waits and bound are put in later.
+// What stands at place i of the search's table; waits, leads and bound are put in later.
 fn entry(l: Loaded, q: Ask, est: [u16; 24], i: usize) -> u64
     ensures { λ r. ⌜ Stands l q est i r ⌝ }
 {
@@ -100,11 +101,11 @@ fn entry(l: Loaded, q: Ask, est: [u16; 24], i: usize) -> u64
     q.jobs as u64
 }
 
-// The table of the search, but for the waits and the bound.
+// The table of the search, but for the waits, the leads and the bound.
 fn listed(l: Loaded, q: Ask, est: [u16; 24]) -> Tables
     ensures { λ r. ⌜ Lists l q est r 228 ⌝ }
 {
-    let mut t = [0u64; 828];
+    let mut t = [0u64; 852];
     for i in 0..228 {
         t[i] = entry(l, q, est, i);
     }
@@ -130,6 +131,27 @@ fn put_waits(t: &mut Tables, l: Loaded, q: Ask)
     for a in 0..n {
         let row = distances::row(l, q, a);
         put_row(t, a, row);
+    }
+}
+
+// The job that job m leads, or 24.
+fn follower(l: Loaded, q: Ask, m: usize) -> usize
+    requires { ⌜ q .jobs ≤ 24 ⌝ }
+    ensures { λ r. ⌜ Follower l q m r ⌝ }
+{
+    if q.jobs <= m {
+        return 24;
+    }
+    turns::led(l, q, m)
+}
+
+// Who leads whom.
+fn put_leads(t: &mut Tables, l: Loaded, q: Ask)
+    requires { ⌜ q .jobs ≤ 24 ⌝ }
+    ensures { λ _. ⌜ LeadsPut l q 24 (now (t .entry)) (now (t .exit)) ⌝ }
+{
+    for m in 0..24 {
+        lent::put_led(t, m, follower(l, q, m));
     }
 }
 
@@ -196,5 +218,6 @@ pub fn set_out(l: Loaded, q: Ask) -> Outset
     let est = all_wait(s, words, estimates::estimate_all(table, q));
     let mut tables = listed(table, q, est);
     put_waits(&mut tables, table, q);
+    put_leads(&mut tables, table, q);
     Outset { tables, goals }
 }

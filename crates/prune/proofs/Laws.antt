@@ -25,12 +25,9 @@ use Rattle.lent.specs.Consumers.{who}
 use Rattle.lent.proofs.Laws.{wait-of}
 use Rattle.lent.proofs.Consumers.{who-job, other-who, wants-of}
 use Rattle.supports.specs.Supports.{Danger, Candidate, Sight, NoMay}
-use Rattle.prune.specs.Prune.{NoneLeft, Lost, Killers, Spared, Begun, Single, LeastOf, Told, Awaits, OnlyOne, OnlyStart}
+use Rattle.prune.specs.Prune.{Lost, Killers, Spared, Begun, Single, LeastOf, Told, Awaits, OnlyOne, OnlyStart}
 
--- ── no plan, no candidate ──
-
-pub killed : {s t r : List ℕ} → PutsBit (IsIn 0) ins 0 s t → PutsBit (IsOut 0) outs 0 t r → Prunes (NoneLeft s) s r
-killed {t = t} d e = follows {U = NoneLeft t} (says d (λ P wf h Q l. absurd (h Q l))) (λ P h m Q l. h Q (left-back m l)) (says e (λ P wf h Q l. absurd (h Q l)))
+-- ── no candidate ──
 
 module _ {P : Search} (wf : InOrder (P .problem)) {s : List ℕ} {b : ℕ} (x : Lost s b P) where
   pub lost-end : b ≡ 24 → Dead P (view s)

@@ -12,10 +12,6 @@ use Rattle.lent.specs.Lent.{waitOf, Lent}
 use Rattle.lent.specs.Consumers.{who}
 use Rattle.supports.specs.Supports.{Candidate, NoMay}
 
--- no plan is left
-abbrev pub NoneLeft : List ℕ → Search → Type 0
-NoneLeft s P = Dead P (view s)
-
 -- some fact of the consumer b has no candidate
 pub record Lost (s : List ℕ) (b : ℕ) (P : Search) : Type 0 where
   pub p : ℕ

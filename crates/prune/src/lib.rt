@@ -5,17 +5,9 @@ ghost use lib.Dec.{T};
 ghost use Rattle.facts.specs.Facts.{has};
 ghost use Rattle.cells.specs.View.{view, Prunes};
 ghost use Rattle.lent.specs.Lent.{wantsOf, waitOf, Lent};
-ghost use Rattle.prune.specs.Prune.{NoneLeft, Lost, Spared, Begun, Single, LeastOf, Awaits, OnlyOne, OnlyStart};
+ghost use Rattle.prune.specs.Prune.{Lost, Spared, Begun, Single, LeastOf, Awaits, OnlyOne, OnlyStart};
 use cells::State;
 use lent::Tables;
-
-// No plan is left: a job inside and barred.
-fn kill(s: &mut State)
-    ensures { λ _. ⌜ Prunes (NoneLeft (now (s .entry))) (now (s .entry)) (now (s .exit)) ⌝ }
-{
-    cells::put_inside(s, 0);
-    cells::put_barred(s, 0);
-}
 
 // A fact of the consumer b has no candidate.
 fn none_left(s: &mut State, b: usize)
@@ -23,7 +15,7 @@ fn none_left(s: &mut State, b: usize)
     ensures { λ _. ⌜ Prunes (Lost (now (s .entry)) b) (now (s .entry)) (now (s .exit)) ⌝ }
 {
     if b == 24 {
-        kill(s);
+        cells::kill(s);
         return;
     }
     cells::put_barred(s, b);
@@ -275,6 +267,7 @@ fn round(s: &mut State, t: &Tables)
     if orders::broken(s) {
         return;
     }
+    leads::all_led(s, t);
     orders::chains(s);
     if orders::broken(s) {
         return;
@@ -292,12 +285,30 @@ fn same(s: &State, t: &State) -> bool {
     true
 }
 
-// One round; whether it was the last: a job is inside and barred, or nothing changed.
+// The rules that cost more: room for jobs that exclude each other, and supports that are different.
+fn rare(s: &mut State, t: &Tables)
+    ensures { λ _. ⌜ Prunes (Lent (now (t .entry))) (now (s .entry)) (now (s .exit)) ⌝ }
+{
+    if crowds::crowded(s, t) {
+        cells::kill(s);
+        return;
+    }
+    distinct::distinct(s, t);
+}
+
+// One round, and where nothing changes the rules that cost more; whether it was the last: a job is inside and barred, or nothing changed.
 fn rests(s: &mut State, t: &Tables) -> bool
     ensures { λ _. ⌜ Prunes (Lent (now (t .entry))) (now (s .entry)) (now (s .exit)) ⌝ }
 {
     let old = *s;
     round(s, t);
+    if orders::broken(s) {
+        return true;
+    }
+    if !same(&old, s) {
+        return false;
+    }
+    rare(s, t);
     if orders::broken(s) {
         return true;
     }

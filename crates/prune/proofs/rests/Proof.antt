@@ -1,3 +1,4 @@
+use Rattle.cells.proofs.Changes.{then}
 use borrow.Author.Needs.{needs}
 use Rattle.prune.proofs.rests.Statement.{statement}
 use Rattle.prune.proofs.rests.Tie as tie
@@ -10,4 +11,9 @@ rests-spec =
     (λ c κs. search needs)
     (λ c. c .before .before .before .round .ensures)
     (λ c κs. search needs)
-    (λ c. c .before .before .before .before .before .before .round .ensures))
+    (λ c. c .before .before .before .before .before .before .before .round .ensures)
+    (λ c κs. search needs)
+    (λ c κs. search needs)
+    (λ c. then (c .before .before .before .before .before .before .before .before .before .before .before .before .round .ensures) (c .before .before .before .rare .ensures))
+    (λ c κs. search needs)
+    (λ c. then (c .before .before .before .before .before .before .before .before .before .before .before .before .before .before .before .round .ensures) (c .before .before .before .before .before .before .rare .ensures)))

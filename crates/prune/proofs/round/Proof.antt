@@ -4,10 +4,16 @@ use Rattle.prune.proofs.round.Statement.{statement}
 use Rattle.prune.proofs.round.Tie as tie
 
 returns-2 : tie.Need-returns-2
-returns-2 c = then (c .before .before .before .before .before .before .before .before .pairs .ensures) (under (λ P wf e. tt) (c .before .before .before .chains .ensures))
+returns-2 c =
+    let d = c .before .before .before in
+    let led = d .before .before in
+    then (led .before .before .before .before .before .pairs .ensures) (then (led .all-led .ensures) (under (λ P wf e. tt) (d .chains .ensures)))
 
 returns-3 : tie.Need-returns-3
-returns-3 c = then (c .before .before .before .before .before .before .before .before .before .before .pairs .ensures) (then (under (λ P wf e. tt) (c .before .before .before .before .before .chains .ensures)) (c .consumers .ensures))
+returns-3 c =
+    let d = c .before .before .before .before .before in
+    let led = d .before .before in
+    then (led .before .before .before .before .before .pairs .ensures) (then (led .all-led .ensures) (then (under (λ P wf e. tt) (d .chains .ensures)) (c .consumers .ensures)))
 
 pub round-spec : {M : Type 1} → statement M
 round-spec =
@@ -16,6 +22,7 @@ round-spec =
     (λ c κs. search needs)
     (λ c κs. search needs)
     (λ c. c .before .before .before .pairs .ensures)
+    (λ c κs. search needs)
     (λ c κs. search needs)
     (λ c κs. search needs)
     returns-2

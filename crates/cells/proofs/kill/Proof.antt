@@ -1,7 +1,7 @@
-use Rattle.prune.proofs.Laws.{killed}
+use Rattle.cells.proofs.Changes.{killed}
 use borrow.Author.Needs.{needs}
-use Rattle.prune.proofs.kill.Statement.{statement}
-use Rattle.prune.proofs.kill.Tie as tie
+use Rattle.cells.proofs.kill.Statement.{statement}
+use Rattle.cells.proofs.kill.Tie as tie
 
 pub kill-spec : {M : Type 1} → statement M
 kill-spec =

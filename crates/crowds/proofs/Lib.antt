@@ -1,0 +1,3 @@
+pub mod Spans
+pub mod Groups
+pub mod Laws

@@ -1,0 +1,28 @@
+use Rattle.turns.proofs.Laws.{leader-of}
+use mathlib.Core.Bool.{false≢true}
+use borrow.Author.Tests.{not-false}
+use borrow.Author.Needs.{needs}
+use Rattle.turns.proofs.leads.Statement.{statement}
+use Rattle.turns.proofs.leads.Tie as tie
+
+returns-4 : tie.Need-returns-4
+returns-4 c e =
+    let g = c .before .before .before .before .before .before in
+    let begin = g .before .before .before .before in
+    leader-of (begin .args .t1) (begin .args .q) (g .find .result) (begin .pre .1) (c .is-turn .ensures e) (c .before .before .moves-to .ensures (not-false _ (c .before .if3 .left)))
+
+pub leads-spec : {M : Type 1} → statement M
+leads-spec =
+    tie.close
+    (tie.spec
+    (λ c. search needs)
+    (λ c. search needs)
+    (λ c. search needs)
+    (λ c. search needs)
+    (λ c e. absurd (false≢true e))
+    (λ c κs. search needs)
+    (λ c e. absurd (false≢true e))
+    (λ c κs. search needs)
+    (λ c e. absurd (false≢true e))
+    (λ c κs. search needs)
+    returns-4)
