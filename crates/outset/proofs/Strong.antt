@@ -10,7 +10,7 @@ use lib.ListN.{getD}
 use Rattle.facts.specs.Facts.{Decides}
 use Rattle.rules.specs.Table.{Problem, InOrder}
 use Rattle.rules.specs.Plans.{Plan, In, Valid}
-use Rattle.rules.specs.Order.{NoPlan}
+use Rattle.rules.specs.Order.{First, NoPlan}
 use Rattle.rules.specs.Estimates.{Estimates}
 use Rattle.rules.proofs.Early.{Alike, never-early}
 use Rattle.tables.specs.declared.Loaded.{Loaded}
@@ -24,6 +24,7 @@ use Rattle.reach.proofs.Same.{strong-ok, same-valid}
 use Rattle.reach.proofs.EDeletes.{fit}
 use Rattle.reach.proofs.Alike.{closed-alike}
 use Rattle.reach.proofs.Words.{edone-words}
+use Rattle.states.specs.State.{Leads}
 use Rattle.lent.specs.Lent.{Cols, Apart, Listed, hitsOf, estOf, waitOf, ledOf}
 use Rattle.turns.specs.Checked.{Leader}
 use Rattle.outset.specs.Outset.{Hit, Stands, AllWait, Lists, WaitsPut, LeadsPut, SetsOut}
@@ -39,7 +40,7 @@ module _ (k : Loaded) (q : Ask) (few : q .jobs ≤ 24) (ok : InOrder (problem k 
   begins : (i : ℕ) → i < 24 → estOf L i ≡ getD est i 0
   begins i l = rw (add-sub-cancel i 202) at (t (i + 202) (omega arith) .there (omega arith) .there (omega arith) .there (omega arith) .there (omega arith) .there (omega arith) .there (omega arith) .there (omega arith) .here (omega arith))
 
-  pub listed-of : ((bound : ℕ) (Q : Plan) → Valid (problem k q) bound Q → (i : ℕ) → In (problem k q) Q i → getD est i 0 ≤ Q i) → ((a : ℕ) → a < q .jobs → Apart (problem k q) a (waitOf L a)) → ((a : ℕ) → a < 24 → ledOf L a < 24 → Leader k q a (ledOf L a)) → Listed L (problem k q)
+  pub listed-of : ((bound : ℕ) (Q : Plan) → Valid (problem k q) bound Q → (i : ℕ) → In (problem k q) Q i → getD est i 0 ≤ Q i) → ((a : ℕ) → a < q .jobs → Apart (problem k q) a (waitOf L a)) → ((a : ℕ) → a < 24 → ledOf L a < 24 → (bound : ℕ) → Leads (record { problem = problem k q; bound = bound }) a (ledOf L a)) → Listed L (problem k q)
   listed-of early apart leads = record {
     wf = ok;
     few = few;
@@ -54,7 +55,7 @@ module _ (k : Loaded) (q : Ask) (few : q .jobs ≤ 24) (ok : InOrder (problem k 
     meets = λ a b l m h. hit a (omega arith) .at b (omega arith) (m, h);
     early = λ bound Q v i h. omega (arith, begins i (omega (arith, h .below)), early bound Q v i h);
     apart = apart;
-    leads = λ a l h. leads a l h ok;
+    leads = leads;
     gap = refl;
     release = λ i. refl;
   }
@@ -93,13 +94,26 @@ module _ (l : Loaded) (q : Ask) (ok : InOrder (problem l q)) (rows : List ℕ) (
   together : (bound : ℕ) → (FitIn rows (q .goals) 64 → ⊥) → NoPlan P bound
   together bound n z v = n (λ r m g u h. states P ok bound z v (inRows rows) (x .closed) bound r u (v .reached r g) (v .reached u h))
 
+  same-plans : (bound : ℕ) (s : Plan) → Valid P bound s ↔ Valid K bound s
+  same-plans bound s = subst (λ (Z : Problem). Valid P bound s ↔ Valid Z bound s) (sym is-strong) (same-valid P ok (inRows rows) x D words bound s)
+
+  -- so the first plan is the same, and who leads in it
+  first-same : (bound : ℕ) (F : Plan) → First K bound F → First P bound F
+  first-same bound F f = record { ok = same-plans bound F .1 (f .ok); none = λ z v b. f .none z (same-plans bound z .0 v) (record { at = b .at; below = b .below; same = b .same; less = b .less }) }
+
+  leads-same : (a n : ℕ) → Leader l q a n → (bound : ℕ) → Leads (record { problem = K; bound = bound }) a n
+  leads-same a n h bound = record {
+    joins = λ F f i. (let y = h ok bound .joins F (first-same bound F f) (record { below = i .below; chosen = i .chosen }) in record { below = y .below; chosen = y .chosen });
+    order = λ F f i. h ok bound .order F (first-same bound F f) (record { below = i .below; chosen = i .chosen });
+  }
+
   pub sets-out : (base est L M N : List ℕ) (goals : Bool) → q .jobs ≤ 24 → Estimates K (entry base) → AllWait rows (k .conditions) base est 24 → Lists k q est L 228 → WaitsPut K (q .jobs) L M
-      → LeadsPut k q 24 M N → Decides goals (FitIn rows (q .goals) 64) → SetsOut l q (record { tables = N; goals = goals })
+      → LeadsPut l q 24 M N → Decides goals (FitIn rows (q .goals) 64) → SetsOut l q (record { tables = N; goals = goals })
   sets-out base est L M N goals few e w t p f g = record {
     searched = K;
     jobs = refl;
-    listed = listed-of k q few order est N (λ i h. subst (λ (x : ℕ). Stands k q est i x) (sym (waits .old i h)) (t i h)) early (waits .apart order) (f .leads);
-    same = λ bound s. subst (λ (Z : Problem). Valid P bound s ↔ Valid Z bound s) (sym is-strong) (same-valid P ok (inRows rows) x D words bound s);
+    listed = listed-of k q few order est N (λ i h. subst (λ (x : ℕ). Stands k q est i x) (sym (waits .old i h)) (t i h)) early (waits .apart order) (λ a h m. leads-same a (ledOf N a) (f .leads a h m));
+    same = same-plans;
     hopeless = λ h bound. together bound (g .nay h);
   }
     where

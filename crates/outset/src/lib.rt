@@ -218,6 +218,6 @@ pub fn set_out(l: Loaded, q: Ask) -> Outset
     let est = all_wait(s, words, estimates::estimate_all(table, q));
     let mut tables = listed(table, q, est);
     put_waits(&mut tables, table, q);
-    put_leads(&mut tables, table, q);
+    put_leads(&mut tables, l, q);
     Outset { tables, goals }
 }
