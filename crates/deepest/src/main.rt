@@ -1,4 +1,4 @@
-// The deepest search known: 24 jobs that each add a goal and a mark and delete the marks of all others, so that all 276 pairs interfere.
+// The deepest search known: 24 jobs of different lengths that each add a goal and a mark and delete the marks of all others, so that all 276 pairs interfere and no two jobs can stand for one another.
 ghost use Prim.Native.Nat.{_<_};
 use printing::end_line;
 use printing::show;
@@ -19,7 +19,7 @@ fn mark(i: usize) -> u64
     16777216u64 << i
 }
 
-// Job i adds its goal and its mark, and deletes the other marks.
+// Job i takes i + 1, adds its goal and its mark, and deletes the other marks.
 fn job(i: usize) -> Action
     requires { ⌜ i < 24 ⌝ }
 {
@@ -27,7 +27,7 @@ fn job(i: usize) -> Action
         conditions: 0,
         additions: (1u64 << i) | mark(i),
         deletions: 281474959933440 ^ mark(i),
-        duration: 1,
+        duration: (i + 1) as u16,
     }
 }
 
