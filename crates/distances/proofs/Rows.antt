@@ -20,7 +20,7 @@ use Rattle.rules.specs.Estimates.{plus, cost, condition, Estimates}
 use Rattle.rules.proofs.Sums.{cond-yes, cond-no}
 use Rattle.rules.proofs.Early.{plus-le, cost-free, cost-cap, condition-is}
 use Rattle.entries.specs.Entries.{entry}
-use Rattle.estimates.specs.Earliest.{greatest, Dearest}
+use Rattle.estimates.specs.Rounds.{greatest, Dearest}
 use Rattle.lent.specs.Lent.{Apart}
 use Rattle.distances.specs.Distances.{since, Spared, Lacks, Behind}
 use Rattle.distances.proofs.Law.{start-distance, goal-distance}

@@ -15,7 +15,7 @@ use Rattle.rules.specs.Estimates.{plus, cheapest, cost, condition, dearest, Est
 use Rattle.rules.proofs.Sums.{sum, sum-falls, cond-yes, cond-no}
 use Rattle.rules.proofs.Early.{cost-free, cost-cap, dearest-mono, dearest-cap}
 use Rattle.entries.specs.Entries.{entry, Same}
-use Rattle.estimates.specs.Earliest.{greatest, Costs, Rounds}
+use Rattle.estimates.specs.Rounds.{greatest, Costs, Rounds}
 
 -- ── a job or a fact more, as a loop's counter says it ──
 

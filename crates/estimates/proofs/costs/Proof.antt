@@ -6,7 +6,7 @@ use lib.ListN.{length, length-set}
 use Rattle.tables.specs.Tables.{problem}
 use Rattle.entries.specs.Entries.{entry}
 use Rattle.entries.proofs.Laws.{stored}
-use Rattle.estimates.specs.Earliest.{Costs}
+use Rattle.estimates.specs.Rounds.{Costs}
 use Rattle.estimates.proofs.costs.Statement.{statement}
 use Rattle.estimates.proofs.costs.Tie as tie
 

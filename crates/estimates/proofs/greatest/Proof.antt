@@ -2,7 +2,7 @@ use borrow.Author.Needs.{needs}
 use mathlib.Core.Path.{_≡_, refl, ap₂, _∙_}
 use Prim.Native.Nat.{_-_, _≤_, max}
 use native.Mathlib.Omega.{arith}
-use Rattle.estimates.specs.Earliest.{greatest}
+use Rattle.estimates.specs.Rounds.{greatest}
 use Rattle.estimates.proofs.Laws.{greatest-more}
 use Rattle.estimates.proofs.greatest.Statement.{statement}
 use Rattle.estimates.proofs.greatest.Tie as tie

@@ -6,7 +6,7 @@ use lib.ListN.{length, length-set}
 use Rattle.tables.specs.Tables.{problem}
 use Rattle.entries.specs.Entries.{entry}
 use Rattle.entries.proofs.Laws.{stored}
-use Rattle.estimates.specs.Earliest.{greatest}
+use Rattle.estimates.specs.Rounds.{greatest}
 use Rattle.estimates.proofs.Laws.{greatest-is}
 use Rattle.estimates.proofs.round.Statement.{statement}
 use Rattle.estimates.proofs.round.Tie as tie
