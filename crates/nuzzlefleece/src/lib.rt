@@ -1,5 +1,5 @@
-// The library for C: every call under a name of its own, with the whole promise of the call and no condition on the caller.
-// Calls over lent records are built as those of `front` are, so that the walks there prove them as they stand.
+// The calls: over the caller's lent job records, under names of their own for C, with no condition on the caller.
+// A call over records takes them out and hands on to the call on a table by value, all in one form, so that one walk proves them.
 ghost use mathlib.Core.Path.{_≡_};
 ghost use lib.Dec.{ltb};
 ghost use lib.ListN.{length};
@@ -12,17 +12,17 @@ ghost use Rattle.settle.specs.Settle.{Settling};
 ghost use Rattle.planning.specs.Planning.{PlansWithin, BoundsWithin};
 ghost use Rattle.jobfile.specs.Calls.{Writes};
 ghost use Rattle.records.specs.Records.{loaded};
-ghost use Rattle.front.specs.Files.{Reads};
+ghost use Rattle.nuzzlefleece.specs.Files.{told, Reads};
 ghost use Rattle.readings.specs.Marks.{listed};
 ghost use Rattle.readings.specs.Opening.{Opens};
 ghost use Rattle.page.specs.Page.{Pages};
-use front::ReadAnswer;
-use front::Save;
+use jobfile::Read;
 use readings::BenchReading;
 use readings::Opening;
 use records::Action;
 use tables::Answer;
 use tables::Ask;
+use tables::Loaded;
 
 // The verdict on an offered plan.
 #[no_mangle]
@@ -97,12 +97,44 @@ pub extern "C" fn nuzzlefleece_settle(t: &[Action], q: Ask, pairs: &[u8], out: &
     settle::settle(l, q, pairs, out)
 }
 
+// What reading a job file says beside the records.
+#[repr(C)]
+pub struct ReadAnswer {
+    pub answer: Answer,
+    pub ask: Ask,
+}
+
+// The answer and the numbers of what was read.
+fn told(r: Read) -> ReadAnswer
+    ensures { λ s. ⌜ s ≡ told r ⌝ }
+{
+    let answer = r.answer;
+    let ask = r.ask;
+    ReadAnswer { answer, ask }
+}
+
 // Reads a job file into the lent records, one a job; those behind the last job stay as they are.
 #[no_mangle]
 pub extern "C" fn nuzzlefleece_read_file(file: &[u8], t: &mut [Action]) -> ReadAnswer
     ensures { λ r. ⌜ Reads (now (file .entry)) (now (t .entry)) (now (t .exit)) r ⌝ }
 {
-    front::read_file(file, t)
+    let r = jobfile_read::read_file(file, t.len());
+    records::scatter(t, r.table, r.ask.jobs);
+    told(r)
+}
+
+// What a save is made of beside the records: the numbers, and how many bytes of the buffer are in use.
+#[repr(C)]
+pub struct Save {
+    pub ask: Ask,
+    pub used: usize,
+}
+
+// The save of a table by value.
+fn append(l: Loaded, s: Save, buf: &mut [u8]) -> Answer
+    ensures { λ r. ⌜ Writes l (s .ask) (s .used) (now (buf .entry)) (now (buf .exit)) r ⌝ }
+{
+    jobfile_write::write_file(l, s.ask, s.used, buf)
 }
 
 // Appends a save behind the bytes used, and returns the new length.
@@ -111,7 +143,7 @@ pub extern "C" fn nuzzlefleece_write_file(t: &[Action], s: Save, buf: &mut [u8])
     ensures { λ r. ⌜ Writes (loaded (now (t .entry))) (s .ask) (s .used) (now (buf .entry)) (now (buf .exit)) r ⌝ }
 {
     let l = records::load(t);
-    front::append(l, s, buf)
+    append(l, s, buf)
 }
 
 // Opening facts from a reading. The marks stand side by side in the three tables, the first `count` of each.

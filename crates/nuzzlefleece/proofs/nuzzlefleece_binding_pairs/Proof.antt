@@ -12,8 +12,8 @@ use Rattle.records.proofs.load.Met as g-thm
 use Rattle.bindings.proofs.binding_pairs.Symbol as c-def
 use Rattle.bindings.proofs.binding_pairs.Symbol.{name as #c}
 use Rattle.bindings.proofs.binding_pairs.Met as c-thm
-use Rattle.front.proofs.Loading.{Load}
-use Rattle.front.proofs.Derives.{Core, derive-meets}
+use Rattle.nuzzlefleece.proofs.Loading.{Load}
+use Rattle.nuzzlefleece.proofs.Derives.{Core, derive-meets}
 use Rattle.nuzzlefleece.proofs.nuzzlefleece_binding_pairs.Key.{name as #f}
 use Rattle.nuzzlefleece.proofs.nuzzlefleece_binding_pairs as f
 use Rattle.nuzzlefleece.proofs.nuzzlefleece_binding_pairs.Statement as stated

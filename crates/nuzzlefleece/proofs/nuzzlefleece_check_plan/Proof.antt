@@ -21,8 +21,8 @@ use Rattle.records.proofs.load.Met as g-thm
 use Rattle.verdict.proofs.check_plan.Symbol as c-def
 use Rattle.verdict.proofs.check_plan.Symbol.{name as #c}
 use Rattle.verdict.proofs.check_plan.Met as c-thm
-use Rattle.front.proofs.Loading.{Load}
-use Rattle.front.proofs.Judges.{Core, judge-meets}
+use Rattle.nuzzlefleece.proofs.Loading.{Load}
+use Rattle.nuzzlefleece.proofs.Judges.{Core, judge-meets}
 use Rattle.nuzzlefleece.proofs.nuzzlefleece_check_plan.Key.{name as #f}
 use Rattle.nuzzlefleece.proofs.nuzzlefleece_check_plan as f
 use Rattle.nuzzlefleece.proofs.nuzzlefleece_check_plan.Statement as stated

@@ -12,8 +12,8 @@ use Rattle.records.proofs.load.Met as g-thm
 use Rattle.estimates.proofs.earliest.Symbol as c-def
 use Rattle.estimates.proofs.earliest.Symbol.{name as #c}
 use Rattle.estimates.proofs.earliest.Met as c-thm
-use Rattle.front.proofs.Loading.{Load}
-use Rattle.front.proofs.Fills.{asks, Core, fill-meets}
+use Rattle.nuzzlefleece.proofs.Loading.{Load}
+use Rattle.nuzzlefleece.proofs.Fills.{asks, Core, fill-meets}
 use Rattle.nuzzlefleece.proofs.nuzzlefleece_earliest.Key.{name as #f}
 use Rattle.nuzzlefleece.proofs.nuzzlefleece_earliest as f
 use Rattle.nuzzlefleece.proofs.nuzzlefleece_earliest.Statement as stated

@@ -12,8 +12,8 @@ use Rattle.records.proofs.load.Met as g-thm
 use Rattle.settle.proofs.settle.Symbol as c-def
 use Rattle.settle.proofs.settle.Symbol.{name as #c}
 use Rattle.settle.proofs.settle.Met as c-thm
-use Rattle.front.proofs.Loading.{Load}
-use Rattle.front.proofs.Derives.{Core, derive-meets}
+use Rattle.nuzzlefleece.proofs.Loading.{Load}
+use Rattle.nuzzlefleece.proofs.Derives.{Core, derive-meets}
 use Rattle.nuzzlefleece.proofs.nuzzlefleece_settle.Key.{name as #f}
 use Rattle.nuzzlefleece.proofs.nuzzlefleece_settle as f
 use Rattle.nuzzlefleece.proofs.nuzzlefleece_settle.Statement as stated

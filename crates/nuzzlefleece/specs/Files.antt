@@ -8,7 +8,7 @@ use Rattle.jobfile.specs.declared.Read.{Read}
 use Rattle.jobfile.specs.Calls.{reading}
 use Rattle.records.specs.declared.Action.{Action}
 use Rattle.records.specs.Records.{placed}
-use Rattle.front.specs.declared.ReadAnswer.{ReadAnswer}
+use Rattle.nuzzlefleece.specs.declared.ReadAnswer.{ReadAnswer}
 
 -- the answer and the numbers of what was read
 abbrev pub told : Read → ReadAnswer

@@ -24,9 +24,9 @@ use Rattle.jobfile.specs.Calls.{Writes}
 use Rattle.jobfile_write.proofs.Only as jobfile_write
 use Rattle.records.specs.declared.Action.{Action}
 use Rattle.records.specs.Records.{loaded}
-use Rattle.front.specs.declared.ReadAnswer.{ReadAnswer}
-use Rattle.front.specs.declared.Save.{Save}
-use Rattle.front.specs.Files.{Reads}
+use Rattle.nuzzlefleece.specs.declared.ReadAnswer.{ReadAnswer}
+use Rattle.nuzzlefleece.specs.declared.Save.{Save}
+use Rattle.nuzzlefleece.specs.Files.{Reads}
 
 module _ (ts : List Action) (q : Ask) (r s : Answer) where
   abbrev l : Loaded

@@ -49,9 +49,9 @@ use Rattle.tables.proofs.Answer.Laws as L′
 use Rattle.records.specs.declared.Action.{Action}
 use Rattle.records.specs.Records.{loaded}
 use Rattle.records.proofs.Action as T
-use Rattle.front.proofs.Save as save
-use Rattle.front.proofs.Save.Laws as save′
-use Rattle.front.proofs.Loading.{Load, v, Own, to-load, Loads, said-load, asked-load}
+use Rattle.nuzzlefleece.proofs.Save as save
+use Rattle.nuzzlefleece.proofs.Save.Laws as save′
+use Rattle.nuzzlefleece.proofs.Loading.{Load, v, Own, to-load, Loads, said-load, asked-load}
 
 -- a struct of numbers, with its laws; at exit it is as it was passed, which computes at each
 pub record Numbers : Type 2 where

@@ -17,9 +17,9 @@ use Rattle.jobfile.proofs.Back.{written-back}
 use Rattle.records.specs.declared.Action.{Action}
 use Rattle.records.specs.Records.{recordAt, loaded, recordOf, placed}
 use Rattle.records.proofs.Lies.{loaded-at, placed-at, placed-rest}
-use Rattle.front.specs.declared.ReadAnswer.{ReadAnswer}
-use Rattle.front.specs.Files.{told, Reads}
-use Rattle.front.proofs.Fits.{reading-fits}
+use Rattle.nuzzlefleece.specs.declared.ReadAnswer.{ReadAnswer}
+use Rattle.nuzzlefleece.specs.Files.{told, Reads}
+use Rattle.nuzzlefleece.proofs.Fits.{reading-fits}
 
 -- the first n jobs of a table that is kept are its own
 kept-at : (l : Loaded) (n room i : ℕ) → i < n → i < 24 → recordOf (kept l n room) i ≡ recordOf l i

@@ -20,8 +20,8 @@ use Rattle.jobfile.specs.Calls.{saveChecks, readChecks, whole, nothing, reading
 use Rattle.jobfile.proofs.Checks.{problem-accepts, problem-count}
 use Rattle.records.specs.declared.Action.{Action}
 use Rattle.records.specs.Records.{placed}
-use Rattle.front.specs.declared.ReadAnswer.{ReadAnswer}
-use Rattle.front.specs.Files.{Reads}
+use Rattle.nuzzlefleece.specs.declared.ReadAnswer.{ReadAnswer}
+use Rattle.nuzzlefleece.specs.Files.{Reads}
 
 -- a check that says 0 does not refuse, and what comes behind it says 0
 passes : (b : Bool) (n k : ℕ) (v : Verdict) → n ≢ 0 → refuseIf b n k v .number ≡ 0 → (T b → ⊥) × (v .number ≡ 0)

@@ -5,3 +5,4 @@ pub mod Derives
 pub mod Fits
 pub mod Only
 pub mod Back
+pub mod AsRead
