@@ -1,72 +1,117 @@
 -- Laws of the walk over a crowd.
 -- Assumes nothing.
 use mathlib.Core.Path.{_≡_, refl, sym, subst}
-use mathlib.Core.Logic.{_⊎_, inl, inr, _≢_, ⊎-elim}
+use mathlib.Core.Logic.{inl, inr, ⊎-elim}
+use mathlib.Core.Bool.{Bool, true, false, not}
 use mathlib.Core.List.{List}
-use Prim.Native.Nat.{ℕ, _+_, _≤_, _<_, _^_}
+use Prim.Native.Nat.{ℕ, _+_, _-_, _≤_, _<_, _^_}
 use native.Mathlib.Omega.{arith}
-use lib.Bits.{bitOr}
-use lib.Dec.{T, eqb→eq, eqb-refl}
-use lib.ListN.{getD}
-use Rattle.facts.specs.Facts.{has}
+use native.Mathlib.Decide.{ℕ-discrete}
+use lib.Bits.{bitAnd, bitOr}
+use lib.Dec.{T, eqb-refl}
+use lib.ListN.{length, getD, set}
+use lib.Seq.{getD-set-same, getD-set-other}
+use Rattle.facts.specs.Facts.{has, Decides}
 use Rattle.facts.specs.Least.{least}
 use Rattle.facts.specs.Walks.{Walk}
-use Rattle.facts.proofs.Sets.{has-pow}
+use Rattle.facts.proofs.Bools.{or-r, and-of, certain}
+use Rattle.facts.proofs.Sets.{has-pow, has-or, has-less}
 use Rattle.facts.proofs.Walks.{Done, done-next, done-map}
-use Rattle.rules.specs.Plans.{interfere}
-use Rattle.states.specs.State.{Search}
+use Rattle.rules.specs.Table.{InOrder}
+use Rattle.rules.specs.Supports.{Support, start, nobody, by}
+use Rattle.rules.proofs.Supported.{Supports}
+use Rattle.states.specs.State.{Search, Has, St, Who, Wants, there, consumer, MayStart, MayJob, May}
+use Rattle.states.proofs.Rules as rules
 use Rattle.cells.specs.View.{view}
-use Rattle.lent.specs.Lent.{hitsOf, Lent}
+use Rattle.lent.specs.Lent.{Cols, Deletes, addersOf, killersOf, wantsOf, Lent}
+use Rattle.lent.specs.Consumers.{who}
 use Rattle.lent.proofs.Laws.{wait-of}
-use Rattle.crowds.specs.Crowds.{Group, Away}
+use Rattle.lent.proofs.Consumers.{wants-of}
+use Rattle.supports.specs.Supports.{Danger, Candidate, Sight}
+use Rattle.crowds.specs.Crowds.{SomeOf, Away}
 use Rattle.crowds.specs.declared.Crowd.{Crowd}
 use Rattle.crowds.specs.declared.Heap.{Heap}
-use Rattle.crowds.specs.Heaps.{Kept, Nearer, AllHold, Joins, Heaps}
-use Rattle.crowds.proofs.Groups.{pile-add}
+use Rattle.crowds.specs.Heaps.{Chosen, AllChosen, Kept, KeptAll, Nearer, Held, Outside, Holds, Later, Joins, Fair, Heaps}
+use Rattle.crowds.proofs.Overload.{pile-add}
 
--- ── how long a job keeps others away ──
+-- ── words of which one job is in ──
+
+pub chosen-alone : (P : Search) (s : List ℕ) (j : ℕ) {r : ℕ} → r ≡ bitOr 0 (2 ^ j) → T (view s .inside j) → Chosen P s r
+chosen-alone P s j e i n Q l = (j, rw (e, has-or 0 (2 ^ j) j) (or-r (has 0 j) _ (subst T (sym (has-pow j j)) (eqb-refl j))), l .fits .stays .inside j i)
+
+-- all candidates of a fact that is wanted, where Start is none
+some-candidate : (P : Search) (s : St) → InOrder (P .problem) → (c : Who) (p w : ℕ) → T (there s c) → Wants P c p → (MayStart P s p c → ⊥) → ((a : ℕ) → MayJob P s p c a → T (has w a)) → SomeOf P s w
+some-candidate P s wf c p w i n h f Q l = go (rules.some P wf s Q l c p (rules.wanted P wf s Q l c i) n)
+  where
+    go : (x : Support) × Supports (P .problem) Q p (consumer P Q c) x × May P s p c x → (a : ℕ) × T (has w a) × Has P Q a
+    go (start, o, m) = absurd (h m)
+    go (nobody, o, m) = absurd m
+    go (by a, g, m) = (a, f a m, g .there)
+
+pub chosen-candidates : {L s : List ℕ} {b p : ℕ} (l : (b ≤ 24) × (p < 64)) {kills adders dang w : ℕ} {may : Bool}
+    → kills ≡ killersOf L p → adders ≡ addersOf L p
+    → ((P : Search) (p : ℕ) → Cols (Deletes (P .problem) p) kills 24 → Cols (Danger P s p b) dang 24)
+    → ((P : Search) (p : ℕ) → Sight P s p b adders dang → Cols (Candidate P s p b) w 24)
+    → ((P : Search) (s : List ℕ) (b : ℕ) → Lent L P → Cols (Danger P s p b) dang 24 → Decides may (MayStart P (view s) p (who b)))
+    → may ≡ false → T (has (wantsOf L b) p) → T (there (view s) (who b)) → (P : Search) → Lent L P → Chosen P s w
+chosen-candidates {L} {s} {b} {p} l {kills} {adders} {dang} {w} ek ea fd fc fm z h i P e n =
+    let k : Cols (Deletes (P .problem) p) kills 24 = rw ek (e .listed .killers p (l .1)) in
+    let d = fd P p k in
+    let c = fc P p (record { few = e .listed .few; gives = rw ea (e .listed .adders p (l .1)); dangers = d }) in
+    some-candidate P (view s) (e .listed .wf) (who b) p w i (wants-of e p b (l .0) h) (fm P s b e d .nay z) (λ a m. c .at a (omega (arith, m .below, e .listed .few)) m)
+
+-- one word is put at a place
+pub chosen-set : (P : Search) (s : List ℕ) (words : List ℕ) (j w : ℕ) → j < length words → Chosen P s w → AllChosen P s words 24 → AllChosen P s (set words j w) 24
+chosen-set P s words j w l x all i m = go (ℕ-discrete i j)
+  where
+    go : Dec (i ≡ j) → Chosen P s (getD (set words j w) i 0)
+    go (yes e) = rw (e, getD-set-same words j w 0 l) x
+    go (no n) = rw (getD-set-other words j i w 0 n) (all i m)
+
+-- ── how long a group keeps others away ──
 
 kept-less : (s L : List ℕ) (a b : ℕ) {m r : ℕ} → r ≤ m → Kept s L a m b → Kept s L a r b
-kept-less s L a b l k n = ⊎-elim inl (λ x. inr (omega arith)) (k n)
+kept-less s L a b l k = ⊎-elim inl (λ x. inr (omega arith)) k
 
 pub hold-next : (s L : List ℕ) (a : ℕ) {w v v' d m r : ℕ} → Done (λ b. b < 24 → Kept s L a m b) w v → Walk 32 v v' → d ≡ least (has v) 32 → Nearer s L a d m r → Done (λ b. b < 24 → Kept s L a r b) w v'
 hold-next s L a {r = r} f k e x = done-next (done-map (λ b g l. kept-less s L a b (x .less) (g l)) f) k (subst (λ (b : ℕ). b < 24 → Kept s L a r b) e (x .kept))
 
--- ── a job alone as a group ──
+pub holds-next : (s L : List ℕ) (w : ℕ) {g v v' d m r : ℕ} → Done (λ a. a < 24 → KeptAll s L w a m) g v → Walk 32 v v' → d ≡ least (has v) 32 → Held s L w d m r → Done (λ a. a < 24 → KeptAll s L w a r) g v'
+holds-next s L w {r = r} f k e x = done-next (done-map (λ a g l b h i. kept-less s L a b (x .less) (g l b h i)) f) k (subst (λ (a : ℕ). a < 24 → KeptAll s L w a r) e (x .kept))
 
-only-bit : (a b : ℕ) → T (has (2 ^ a) b) → b ≡ a
-only-bit a b h = eqb→eq b a (subst T (has-pow a b) h)
+not-not : (b : Bool) → T (not (not b)) → T b
+not-not true h = h
+not-not false h = h
 
-own-bit : (a : ℕ) → T (has (2 ^ a) a)
-own-bit a = subst T (sym (has-pow a a)) (eqb-refl a)
+pub outside : (w v : ℕ) → w < 2 ^ 32 → v < 2 ^ 32 → Outside w v (bitAnd w (2 ^ 32 - 1 - v))
+outside w v lw lv b h n = subst T (sym (has-less 32 w v b lw lv)) (and-of (has w b) _ h (certain (not (has v b)) (λ m. n (not-not (has v b) m))))
 
--- no job more
+pub latest-next : (s : List ℕ) {g v v' d m r : ℕ} → Done (λ a. a < 24 → view s .hi a ≤ m) g v → Walk 32 v v' → d ≡ least (has v) 32 → Later s d m r → Done (λ a. a < 24 → view s .hi a ≤ r) g v'
+latest-next s {r = r} f k e x = done-next (done-map (λ a g l. omega (arith, g l, x .more)) f) k (subst (λ (a : ℕ). a < 24 → view s .hi a ≤ r) e (x .high))
+
+-- ── one group more ──
+
+-- no group more
 pub heaps-same : {s L : List ℕ} {c : Crowd} {h : Heap} → Heaps s L c h h
-heaps-same = record { small = λ l. l; same = refl; piled = λ P t all p. p }
+heaps-same = record { small = λ l. l; same = refl; piled = λ P t f p. p }
 
-pub heaps : (s L : List ℕ) (c : Crowd) (h : Heap) (j x : ℕ) {till : ℕ} → Joins s L (c .jobs) j h → x ≡ getD (c .long) j 0 → x ≤ 65535 → h .sum ≤ 4000000 → h .till ≤ till → view s .hi j + x ≤ till
-    → Heaps s L c h (record { from = h .from; members = bitOr (h .members) (2 ^ j); sum = h .sum + x; till = till })
-heaps s L c h j x {till} k is short small after gone = record {
+pub heaps : (s L : List ℕ) (c : Crowd) (h : Heap) (j x : ℕ) {group till : ℕ} → j < 24 → group ≡ getD (c .words) j 0 → x ≡ getD (c .long) j 0 → Joins s L (c .jobs) group h → x ≤ 65535 → h .sum ≤ 4000000 → h .till ≤ till
+    → ((a : ℕ) → T (has group a) → a < 24 → view s .hi a + x ≤ till)
+    → Heaps s L c h (record { from = h .from; members = bitOr (h .members) group; sum = h .sum + x; till = till })
+heaps s L c h j x {group} {till} below eg ex k short small after gone = record {
   small = λ l. omega arith;
   same = refl;
-  piled = λ P t all p.
-      pile-add P (view s) (c .jobs) (h .from) (h .till) (h .sum) (h .members) group (hitsOf L j) (view s .lo j) till till
-      (record {
-        some = λ Q l. (j, own-bit j, l .fits .stays .inside j (k .inside));
-        inner = λ a i. subst (λ (b : ℕ). T (has (c .jobs) b)) (sym (only-bit j a i)) (k .among);
-        spaced = λ a b i m n. subst (λ (d : ℕ). Away P (view s) d x b) (sym (only-bit j a i)) (away P t all b m (λ e. n (subst (λ (d : ℕ). T (has (2 ^ j) d)) (sym e) (own-bit j))));
-      })
-      (record {
-        hits = λ a b i m. subst (λ (d : ℕ). T (interfere (P .problem) d b)) (sym (only-bit j a i)) (t .listed .clash j b (k .below) m);
-        lo = λ a i. subst (λ (d : ℕ). view s .lo j ≤ view s .lo d) (sym (only-bit j a i)) (omega arith);
-        hi = λ a i. subst (λ (d : ℕ). view s .hi d + x ≤ till) (sym (only-bit j a i)) gone;
-      })
-      (k .late) (k .rivals) after (omega arith) p;
+  piled = λ P t f p.
+      pile-add P (view s) (c .jobs) (h .from) (h .till) (h .sum) (h .members) (record { jobs = group; long = x }) (h .members) (h .from) till till
+      (record { some = subst (Chosen P s) (sym eg) (f .some j below) (k .some); inner = k .among; spaced = away P t f })
+      (record { hits = λ a b i m. t .listed .clash a b (k .late a i .0) (k .rivals a i b m); lo = λ a i. k .late a i .1; hi = λ a i. gone a i (k .late a i .0) })
+      (omega arith) (λ b m. m) after (omega arith) p;
 }
   where
-    group : Group
-    group = record { jobs = 2 ^ j; long = x }
+    held : {P : Search} → Fair P s L c → Holds s L (c .jobs) group x
+    held f = rw (eg, ex) (f .hold j below)
 
-    away : (P : Search) → Lent L P → AllHold s L (c .jobs) (c .long) 24 → (b : ℕ) → T (has (c .jobs) b) → b ≢ j → Away P (view s) j x b
-    away P t all b m n Q l ij ib o =
-        ⊎-elim (λ y. absurd (l .fits .never j b y ij ib o)) (λ y. omega (arith, is, wait-of t j b Q (l .first .ok) ij ib o)) (all j (k .below) b m (omega (arith, ib .below, t .listed .few)) n)
+    away : (P : Search) → Lent L P → Fair P s L c → (a b : ℕ) → T (has group a) → T (has (c .jobs) b) → (T (has group b) → ⊥) → Away P (view s) a x b
+    away P t f a b i m n Q l ia ib o =
+        ⊎-elim (λ y. absurd (l .fits .never a b y ia ib o)) (λ y. omega (arith, wait-of t a b Q (l .first .ok) ia ib o))
+        (held f a b i (k .late a i .0) m n (omega (arith, ib .below, t .listed .few)))

@@ -1,3 +1,3 @@
 pub mod Spans
-pub mod Groups
+pub mod Overload
 pub mod Laws

@@ -8,47 +8,106 @@ use Prim.Native.Nat.{ℕ, _≤_, _<_}
 use lib.Dec.{T}
 use lib.ListN.{getD}
 use Rattle.facts.specs.Facts.{has, Covers}
-use Rattle.states.specs.State.{Search, St, Dead}
+use Rattle.states.specs.State.{Search, Dead}
 use Rattle.cells.specs.View.{view}
 use Rattle.lent.specs.Lent.{hitsOf, waitOf, Lent}
-use Rattle.crowds.specs.Crowds.{Pile}
+use Rattle.crowds.specs.Crowds.{SomeOf, Pile}
+use Rattle.crowds.specs.declared.Groups.{Groups}
 use Rattle.crowds.specs.declared.Crowd.{Crowd}
 use Rattle.crowds.specs.declared.Heap.{Heap}
 
+-- ── words of which one job is in ──
+
+-- the word is empty, or every plan left has a job of it
+abbrev pub Chosen : Search → List ℕ → (word : ℕ) → Type 0
+Chosen P s w = w ≢ 0 → SomeOf P (view s) w
+
+-- so are the first n words
+abbrev pub AllChosen : Search → List ℕ → (words : List ℕ) (n : ℕ) → Type 0
+AllChosen P s words n = (j : ℕ) → j < n → Chosen P s (getD words j 0)
+
+-- and those of r, if those of g are
+abbrev pub Grows : (s L : List ℕ) (g r : Groups) → Type 0
+Grows s L g r = (P : Search) → Lent L P → AllChosen P s (g .words) 24 → AllChosen P s (r .words) 24
+
+-- true only where no plan is left, if the groups are such words
+abbrev pub Told : (s L : List ℕ) (g : Groups) (r : Bool) → Type 0
+Told s L g r = r ≡ true → (P : Search) → Lent L P → AllChosen P s (g .words) 24 → Dead P (view s)
+
+-- ── how long a group keeps others away ──
+
 -- b is surely not behind a, or by the table at least x behind its start
 abbrev pub Kept : (s L : List ℕ) (a x b : ℕ) → Type 0
-Kept s L a x b = b ≢ a → T (view s .never a b) ⊎ (x ≤ waitOf L a b)
+Kept s L a x b = T (view s .never a b) ⊎ (x ≤ waitOf L a b)
 
--- job a keeps every other job of the word away for x
-abbrev pub Holds : (s L : List ℕ) (w a x : ℕ) → Type 0
-Holds s L w a x = (b : ℕ) → T (has w b) → b < 24 → Kept s L a x b
+-- job a keeps every job of the word away for x
+abbrev pub KeptAll : (s L : List ℕ) (w a x : ℕ) → Type 0
+KeptAll s L w a x = (b : ℕ) → T (has w b) → b < 24 → Kept s L a x b
 
 -- r is no more than m, and a keeps b away for r
 pub record Nearer (s L : List ℕ) (a b m r : ℕ) : Type 0 where
   pub less : r ≤ m
   pub kept : b < 24 → Kept s L a r b
 
--- the first n jobs keep those of the word away for so long
-abbrev pub AllHold : (s L : List ℕ) (w : ℕ) (long : List ℕ) (n : ℕ) → Type 0
-AllHold s L w long n = (a : ℕ) → a < n → Holds s L w a (getD long a 0)
+-- and it keeps every job of the word away
+pub record Held (s L : List ℕ) (w a m r : ℕ) : Type 0 where
+  pub less : r ≤ m
+  pub kept : a < 24 → KeptAll s L w a r
 
--- job j is one of the word, inside, starts late enough and interferes with all members
-pub record Joins (s L : List ℕ) (w j : ℕ) (h : Heap) : Type 0 where
-  pub below : j < 24
-  pub late : h .from ≤ view s .lo j
-  pub inside : T (view s .inside j)
-  pub among : T (has w j)
-  pub rivals : Covers (hitsOf L j) (h .members)
+-- r has the jobs of w that are not in v
+abbrev pub Outside : (w v r : ℕ) → Type 0
+Outside w v r = (b : ℕ) → T (has w b) → (T (has v b) → ⊥) → T (has r b)
+
+-- every job of the group keeps those of the word outside it away for x
+abbrev pub Holds : (s L : List ℕ) (w group x : ℕ) → Type 0
+Holds s L w g x = (a b : ℕ) → T (has g a) → a < 24 → T (has w b) → (T (has g b) → ⊥) → b < 24 → Kept s L a x b
+
+-- so do the first n groups
+abbrev pub AllHold : (s L : List ℕ) (w : ℕ) (words long : List ℕ) (n : ℕ) → Type 0
+AllHold s L w words long n = (a : ℕ) → a < n → Holds s L w (getD words a 0) (getD long a 0)
+
+-- ── where a group stands ──
+
+-- job a starts at r or earlier, and m is no later
+pub record Later (s : List ℕ) (a m r : ℕ) : Type 0 where
+  pub more : m ≤ r
+  pub high : a < 24 → view s .hi a ≤ r
+
+-- every job of the group starts at x or earlier
+abbrev pub Latest : List ℕ → (group x : ℕ) → Type 0
+Latest s g x = (a : ℕ) → T (has g a) → a < 24 → view s .hi a ≤ x
+
+-- every job of the group starts at `from` or later
+abbrev pub Late : List ℕ → (group from : ℕ) → Type 0
+Late s g from = (a : ℕ) → T (has g a) → (a < 24) × (from ≤ view s .lo a)
+
+-- every job of the group interferes with all of the word
+abbrev pub Clash : (L : List ℕ) (group w : ℕ) → Type 0
+Clash L g w = (a : ℕ) → T (has g a) → Covers (hitsOf L a) w
+
+-- ── the walk ──
+
+-- the group has jobs, all of the crowd w, starts late enough and interferes with all members
+pub record Joins (s L : List ℕ) (w group : ℕ) (h : Heap) : Type 0 where
+  pub some : group ≢ 0
+  pub among : Covers w group
+  pub late : Late s group (h .from)
+  pub rivals : Clash L group (h .members)
 
 abbrev pub Piled : Search → List ℕ → (w : ℕ) → Heap → Type 0
 Piled P s w h = Pile P (view s) w (h .from) (h .till) (h .sum) (h .members)
 
--- one job of the crowd more, or not
+-- the crowd's lengths are right, and its groups are words of which one job is in
+pub record Fair (P : Search) (s L : List ℕ) (c : Crowd) : Type 0 where
+  pub hold : AllHold s L (c .jobs) (c .words) (c .long) 24
+  pub some : AllChosen P s (c .words) 24
+
+-- one group of the crowd more, or not
 pub record Heaps (s L : List ℕ) (c : Crowd) (h r : Heap) : Type 0 where
   pub small : h .sum ≤ 5000000 → r .sum ≤ 5000000
   pub same : r .from ≡ h .from
-  pub piled : (P : Search) → Lent L P → AllHold s L (c .jobs) (c .long) 24 → Piled P s (c .jobs) h → Piled P s (c .jobs) r
+  pub piled : (P : Search) → Lent L P → Fair P s L c → Piled P s (c .jobs) h → Piled P s (c .jobs) r
 
--- true only where no plan is left, if the crowd's lengths are right
+-- true only where no plan is left, if the crowd is fair
 abbrev pub Full : (s L : List ℕ) (c : Crowd) (r : Bool) → Type 0
-Full s L c r = r ≡ true → (P : Search) → Lent L P → AllHold s L (c .jobs) (c .long) 24 → Dead P (view s)
+Full s L c r = r ≡ true → (P : Search) → Lent L P → Fair P s L c → Dead P (view s)

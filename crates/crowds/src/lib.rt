@@ -1,22 +1,33 @@
 // Jobs that exclude each other and have no room one beside the other.
 ghost use mathlib.Core.Path.{_≡_};
 ghost use mathlib.Core.Bool.{true};
-ghost use Prim.Native.Nat.{_≤_, _<_};
-ghost use Rattle.states.specs.State.{Search, Dead};
+ghost use mathlib.Core.List.{List};
+ghost use Prim.Native.Nat.{ℕ, _≤_, _<_};
+ghost use lib.Dec.{T};
+ghost use Rattle.states.specs.State.{Search, there, Dead};
 ghost use Rattle.cells.specs.View.{view};
-ghost use Rattle.lent.specs.Lent.{Lent};
-ghost use Rattle.crowds.specs.Heaps.{Nearer, Holds, AllHold, Joins, Heaps, Full};
+ghost use Rattle.facts.specs.Facts.{has, Covers};
+ghost use Rattle.lent.specs.Lent.{wantsOf, hitsOf, Lent};
+ghost use Rattle.lent.specs.Consumers.{who};
+ghost use Rattle.crowds.specs.Heaps.{Nearer, Held, Outside, Holds, AllHold, Later, Latest, Late, Clash, Joins, Heaps, Full, Chosen, AllChosen, Grows, Told};
 use cells::State;
 use lent::Tables;
 
-// Jobs, how long each keeps the others away, and the jobs by their latest ends.
+// Words of jobs of each of which one job is in, each at the place of its first job; `used` are the jobs of all.
+pub struct Groups {
+    pub words: [u32; 24],
+    pub used: u32,
+}
+
+// The jobs of groups, each group's jobs, how long it keeps the others away, and the groups by their latest ends.
 pub struct Crowd {
     pub jobs: u32,
+    pub words: [u32; 24],
     pub long: [u32; 24],
     pub order: [usize; 24],
 }
 
-// Jobs of a crowd from a time on: what they take together, and when the last is gone.
+// Groups of a crowd from a time on: their jobs, what they take together, and when the last is gone.
 pub struct Heap {
     pub from: u32,
     pub members: u32,
@@ -42,9 +53,6 @@ fn nearer(s: &State, t: &Tables, a: usize, b: usize, m: u32) -> u32
     if 24 <= b {
         return m;
     }
-    if a == b {
-        return m;
-    }
     if cells::never(s, a, b) {
         return m;
     }
@@ -55,57 +63,116 @@ fn nearer(s: &State, t: &Tables, a: usize, b: usize, m: u32) -> u32
     m
 }
 
-// How long job a keeps every other job of the word away.
-fn hold(s: &State, t: &Tables, w: u32, a: usize) -> u32
-    requires { ⌜ a < 24 ⌝ }
-    ensures { λ r. ⌜ Holds (now (s .entry)) (now (t .entry)) w a r ⌝ }
+// The smaller of m and how long job a keeps every job of the word away.
+fn hold(s: &State, t: &Tables, a: usize, w: u32, m: u32) -> u32
+    ensures { λ r. ⌜ Held (now (s .entry)) (now (t .entry)) w a m r ⌝ }
 {
-    let mut m: u32 = 65535;
+    if 24 <= a {
+        return m;
+    }
+    let mut x = m;
     let mut v = w;
     while v != 0 {
-        m = nearer(s, t, a, cells::lowest(v), m);
+        x = nearer(s, t, a, cells::lowest(v), x);
         v = cells::rest(v);
     }
-    m
+    x
 }
 
-// The same if a is a job of the word, else nothing.
-fn hold_if(s: &State, t: &Tables, w: u32, a: usize) -> u32
-    requires { ⌜ a < 24 ⌝ }
-    ensures { λ r. ⌜ Holds (now (s .entry)) (now (t .entry)) w a r ⌝ }
+// The jobs of w that are not in v.
+fn outside(w: u32, v: u32) -> u32
+    ensures { λ r. ⌜ Outside w v r ⌝ }
 {
-    if !cells::has(w, a) {
+    w & !v
+}
+
+// How long the jobs of a group keep all jobs of the crowd outside it away, if it is one of the crowd.
+fn holds(s: &State, t: &Tables, w: u32, group: u32) -> u32
+    ensures { λ r. ⌜ Holds (now (s .entry)) (now (t .entry)) w group r ⌝ }
+{
+    if !cells::within(group, w) {
         return 0;
     }
-    hold(s, t, w, a)
+    let others = outside(w, group);
+    let mut x: u32 = 65535;
+    let mut v = group;
+    while v != 0 {
+        x = hold(s, t, cells::lowest(v), others, x);
+        v = cells::rest(v);
+    }
+    x
 }
 
-// The same for every job.
-fn holds(s: &State, t: &Tables, w: u32) -> [u32; 24]
-    ensures { λ r. ⌜ AllHold (now (s .entry)) (now (t .entry)) w r 24 ⌝ }
+// The same for every group.
+fn lengths(s: &State, t: &Tables, w: u32, words: [u32; 24]) -> [u32; 24]
+    ensures { λ r. ⌜ AllHold (now (s .entry)) (now (t .entry)) w words r 24 ⌝ }
 {
     let mut long = [0u32; 24];
     for a in 0..24 {
-        long[a] = hold_if(s, t, w, a);
+        long[a] = holds(s, t, w, words[a]);
     }
     long
 }
 
-// When job j ends at the latest.
-fn end(s: &State, t: &Tables, j: usize) -> u64 {
+// The later of m and the latest start of job a.
+fn further(s: &State, a: usize, m: u32) -> u32
+    ensures { λ r. ⌜ Later (now (s .entry)) a m r ⌝ }
+{
+    if 24 <= a {
+        return m;
+    }
+    let x = cells::hi(s, a);
+    if m < x {
+        return x;
+    }
+    m
+}
+
+// The latest start of the jobs of a group.
+fn latest(s: &State, group: u32) -> u32
+    ensures { λ r. ⌜ Latest (now (s .entry)) group r ⌝ }
+{
+    let mut x: u32 = 0;
+    let mut v = group;
+    while v != 0 {
+        x = further(s, cells::lowest(v), x);
+        v = cells::rest(v);
+    }
+    x
+}
+
+// When a group is gone at the latest, if it has jobs, else after all.
+fn gone_by(s: &State, group: u32, long: u32) -> u64 {
+    if group == 0 {
+        return 8589934592;
+    }
+    cells::sum(latest(s, group), long)
+}
+
+// The same for every group.
+fn ends(s: &State, words: [u32; 24], long: [u32; 24]) -> [u64; 24] {
+    let mut gone = [0u64; 24];
+    for a in 0..24 {
+        gone[a] = gone_by(s, words[a], long[a]);
+    }
+    gone
+}
+
+// When the group of job j is gone, for 24 after all.
+fn end(gone: [u64; 24], j: usize) -> u64 {
     if 24 <= j {
         return 8589934592;
     }
-    cells::sum(cells::hi(s, j), lent::step(t, j))
+    gone[j]
 }
 
-// The job of the word that ends first, at the latest; any answer is right.
-fn soonest(s: &State, t: &Tables, w: u32) -> usize {
+// The group of the word that is gone first, at the latest; any answer is right.
+fn soonest(gone: [u64; 24], w: u32) -> usize {
     let mut best: usize = 24;
     let mut v = w;
     while v != 0 {
         let j = cells::lowest(v);
-        if end(s, t, j) < end(s, t, best) {
+        if end(gone, j) < end(gone, best) {
             best = j;
         }
         v = cells::rest(v);
@@ -118,45 +185,98 @@ fn without(w: u32, j: usize) -> u32 {
     if 24 <= j {
         return 0;
     }
-    w & !cells::with(0, j)
+    outside(w, cells::with(0, j))
 }
 
-// The jobs of the word by their latest ends. Any order is right; this one finds most.
-fn by_end(s: &State, t: &Tables, w: u32) -> [usize; 24] {
+// The groups of the word by their latest ends. Any order is right; this one finds most.
+fn by_end(gone: [u64; 24], w: u32) -> [usize; 24] {
     let mut order = [24usize; 24];
     let mut v = w;
     for k in 0..24 {
-        let j = soonest(s, t, v);
+        if v == 0 {
+            return order;
+        }
+        let j = soonest(gone, v);
         order[k] = j;
         v = without(v, j);
     }
     order
 }
 
-// Job j is one of the crowd, starts late enough and excludes all jobs so far.
-fn joins(s: &State, t: &Tables, w: u32, j: usize, h: Heap) -> bool
-    ensures { λ r. ⌜ (r ≡ true → Joins (now (s .entry)) (now (t .entry)) w j h) ⌝ }
+// Job j starts at the time or later.
+fn late_at(s: &State, j: usize, from: u32) -> bool
+    ensures { λ r. ⌜ (r ≡ true → (j < 24) × (from ≤ view (now (s .entry)) .lo j)) ⌝ }
 {
     if 24 <= j {
         return false;
     }
-    if cells::lo(s, j) < h.from {
+    if cells::lo(s, j) < from {
         return false;
     }
-    if !cells::inside(s, j) {
-        return false;
-    }
-    if !cells::has(w, j) {
-        return false;
-    }
-    cells::within(h.members, lent::hits(t, j))
+    true
 }
 
-// Job j more, if it can come to the others.
+// All jobs of a group do.
+fn late(s: &State, group: u32, from: u32) -> bool
+    ensures { λ r. ⌜ (r ≡ true → Late (now (s .entry)) group from) ⌝ }
+{
+    let mut v = group;
+    while v != 0 {
+        if !late_at(s, cells::lowest(v), from) {
+            return false;
+        }
+        v = cells::rest(v);
+    }
+    true
+}
+
+// Job j interferes with all of the word.
+fn clash_at(t: &Tables, j: usize, w: u32) -> bool
+    ensures { λ r. ⌜ (r ≡ true → Covers (hitsOf (now (t .entry)) j) w) ⌝ }
+{
+    if 24 <= j {
+        return false;
+    }
+    cells::within(w, lent::hits(t, j))
+}
+
+// All jobs of a group do.
+fn clash(t: &Tables, group: u32, w: u32) -> bool
+    ensures { λ r. ⌜ (r ≡ true → Clash (now (t .entry)) group w) ⌝ }
+{
+    let mut v = group;
+    while v != 0 {
+        if !clash_at(t, cells::lowest(v), w) {
+            return false;
+        }
+        v = cells::rest(v);
+    }
+    true
+}
+
+// The group is one of the crowd w, starts late enough and excludes all jobs so far.
+fn joins(s: &State, t: &Tables, w: u32, group: u32, h: Heap) -> bool
+    ensures { λ r. ⌜ (r ≡ true → Joins (now (s .entry)) (now (t .entry)) w group h) ⌝ }
+{
+    if group == 0 {
+        return false;
+    }
+    if !cells::within(group, w) {
+        return false;
+    }
+    if !late(s, group, h.from) {
+        return false;
+    }
+    clash(t, group, h.members)
+}
+
+// The group of job j more, if it can come to the others.
 fn join(s: &State, t: &Tables, c: Crowd, j: usize, h: Heap) -> Heap
+    requires { ⌜ j < 24 ⌝ }
     ensures { λ r. ⌜ Heaps (now (s .entry)) (now (t .entry)) c h r ⌝ }
 {
-    if !joins(s, t, c.jobs, j, h) {
+    let group = c.words[j];
+    if !joins(s, t, c.jobs, group, h) {
         return h;
     }
     let x = c.long[j];
@@ -166,16 +286,16 @@ fn join(s: &State, t: &Tables, c: Crowd, j: usize, h: Heap) -> Heap
     if 4000000 < h.sum {
         return h;
     }
-    let gone = cells::sum(cells::hi(s, j), x);
+    let gone = cells::sum(latest(s, group), x);
     Heap {
         from: h.from,
-        members: cells::with(h.members, j),
+        members: h.members | group,
         sum: h.sum + cells::wide(x),
         till: later(h.till, gone),
     }
 }
 
-// From this time on the jobs of the crowd have no room one beside the other.
+// From this time on the groups of the crowd have no room one beside the other.
 fn full_from(s: &State, t: &Tables, c: Crowd, from: u32) -> bool
     ensures { λ r. ⌜ Full (now (s .entry)) (now (t .entry)) c r ⌝ }
 {
@@ -186,7 +306,11 @@ fn full_from(s: &State, t: &Tables, c: Crowd, from: u32) -> bool
         till: cells::wide(from),
     };
     for k in 0..24 {
-        h = join(s, t, c, c.order[k], h);
+        let j = c.order[k];
+        if 24 <= j {
+            return false;
+        }
+        h = join(s, t, c, j, h);
         if h.till < cells::wide(from) + h.sum {
             return true;
         }
@@ -194,83 +318,233 @@ fn full_from(s: &State, t: &Tables, c: Crowd, from: u32) -> bool
     false
 }
 
-// The same from the earliest start of job i on.
-fn full_at(s: &State, t: &Tables, c: Crowd, i: usize) -> bool
+// The same, if it is another time than the last.
+fn full_at(s: &State, t: &Tables, c: Crowd, from: u32, last: u32) -> bool
     ensures { λ r. ⌜ Full (now (s .entry)) (now (t .entry)) c r ⌝ }
 {
-    if 24 <= i {
+    if from == last {
         return false;
     }
-    full_from(s, t, c, cells::lo(s, i))
+    full_from(s, t, c, from)
 }
 
-// The jobs of the word have no room one beside the other.
-fn overfull(s: &State, t: &Tables, w: u32) -> bool
-    ensures { λ r. ⌜ (r ≡ true → (P : Search) → Lent (now (t .entry)) P → Dead P (view (now (s .entry)))) ⌝ }
+// The earliest start of job i. Any time is right.
+fn earliest(s: &State, i: usize) -> u32 {
+    if 24 <= i {
+        return 0;
+    }
+    cells::lo(s, i)
+}
+
+// The groups with these jobs have no room one beside the other.
+fn overfull(s: &State, t: &Tables, g: Groups, w: u32) -> bool
+    ensures { λ r. ⌜ Told (now (s .entry)) (now (t .entry)) g r ⌝ }
 {
+    let words = g.words;
+    let long = lengths(s, t, w, words);
+    let gone = ends(s, words, long);
+    let order = by_end(gone, w);
     let c = Crowd {
         jobs: w,
-        long: holds(s, t, w),
-        order: by_end(s, t, w),
+        words,
+        long,
+        order,
     };
+    let mut last: u32 = 4294967295;
     let mut v = w;
     while v != 0 {
-        if full_at(s, t, c, cells::lowest(v)) {
+        let from = earliest(s, cells::lowest(v));
+        if full_at(s, t, c, from, last) {
             return true;
         }
+        last = from;
         v = cells::rest(v);
     }
     false
 }
 
-// Job j more, if it interferes with all of the word.
-fn more(t: &Tables, w: u32, j: usize) -> u32 {
+// The group of job j more, if it interferes with all of the word.
+fn more(t: &Tables, g: Groups, w: u32, j: usize) -> u32 {
     if 24 <= j {
         return w;
     }
-    if !cells::within(w, lent::hits(t, j)) {
+    if !clash(t, g.words[j], w) {
         return w;
     }
-    cells::with(w, j)
+    w | g.words[j]
 }
 
-// Jobs inside that exclude each other, job i among them. Any word is right.
-fn gather(s: &State, t: &Tables, i: usize) -> u32 {
+// The jobs of groups that exclude each other, that of job i among them. Any word is right.
+fn gather(t: &Tables, g: Groups, i: usize) -> u32 {
     if 24 <= i {
         return 0;
     }
-    let mut w = cells::with(0, i);
-    let mut v = cells::insides(s) & lent::hits(t, i);
+    let mut w = g.words[i];
+    if w == 0 {
+        return 0;
+    }
+    let mut v = g.used & lent::hits(t, i);
     while v != 0 {
-        w = more(t, w, cells::lowest(v));
+        w = more(t, g, w, cells::lowest(v));
         v = cells::rest(v);
     }
     w
 }
 
-// The jobs of the word have no room, if it is another than the last.
-fn tells(s: &State, t: &Tables, w: u32, last: u32) -> bool
-    ensures { λ r. ⌜ (r ≡ true → (P : Search) → Lent (now (t .entry)) P → Dead P (view (now (s .entry)))) ⌝ }
+// The groups with these jobs have no room, if there are two and they are others than the last.
+fn tells(s: &State, t: &Tables, g: Groups, w: u32, last: u32) -> bool
+    ensures { λ r. ⌜ Told (now (s .entry)) (now (t .entry)) g r ⌝ }
 {
+    if w == 0 {
+        return false;
+    }
+    if cells::rest(w) == 0 {
+        return false;
+    }
     if w == last {
         return false;
     }
-    overfull(s, t, w)
+    overfull(s, t, g, w)
 }
 
-// Some jobs inside that exclude each other have no room.
-pub fn crowded(s: &State, t: &Tables) -> bool
-    ensures { λ r. ⌜ (r ≡ true → (P : Search) → Lent (now (t .entry)) P → Dead P (view (now (s .entry)))) ⌝ }
+// Some groups that exclude each other have no room, one of them that of a job of the word.
+fn some_full(s: &State, t: &Tables, g: Groups, first: u32) -> bool
+    ensures { λ r. ⌜ Told (now (s .entry)) (now (t .entry)) g r ⌝ }
 {
     let mut last: u32 = 0;
-    let mut v = cells::insides(s);
+    let mut v = first;
     while v != 0 {
-        let w = gather(s, t, cells::lowest(v));
-        if tells(s, t, w, last) {
+        let w = gather(t, g, cells::lowest(v));
+        if tells(s, t, g, w, last) {
             return true;
         }
         last = w;
         v = cells::rest(v);
     }
     false
+}
+
+// Job j alone, if it is inside.
+fn alone_at(s: &State, j: usize) -> u32
+    requires { ⌜ j < 24 ⌝ }
+    ensures { λ r. ⌜ ((P : Search) → Chosen P (now (s .entry)) r) ⌝ }
+{
+    if !cells::inside(s, j) {
+        return 0;
+    }
+    cells::with(0, j)
+}
+
+// The jobs inside, each alone.
+fn alone(s: &State) -> Groups
+    ensures { λ r. ⌜ ((P : Search) → AllChosen P (now (s .entry)) (r .words) 24) ⌝ }
+{
+    let mut words = [0u32; 24];
+    for j in 0..24 {
+        words[j] = alone_at(s, j);
+    }
+    Groups {
+        words,
+        used: cells::insides(s),
+    }
+}
+
+// The jobs of the word that are inside, and not surely too late for the consumer b. Any word is right; this one saves work.
+fn ready(s: &State, b: usize, w: u32) -> u32
+    requires { ⌜ b ≤ 24 ⌝ }
+{
+    let v = w & cells::insides(s);
+    if b == 24 {
+        return v;
+    }
+    outside(v, cells::row_never(s, b))
+}
+
+// All candidates for the fact p of the consumer b, if it is there and Start is none.
+fn several(s: &State, t: &Tables, b: usize, p: usize) -> u32
+    requires { ⌜ (b ≤ 24) × (p < 64) ⌝ }
+    ensures { λ r. ⌜ (T (has (wantsOf (now (t .entry)) b) p) → T (there (view (now (s .entry))) (who b)) → (P : Search) → Lent (now (t .entry)) P → Chosen P (now (s .entry)) r) ⌝ }
+{
+    let adders = lent::adders(t, p);
+    if ready(s, b, adders) != 0 {
+        return 0;
+    }
+    let dang = supports::dangers(s, b, lent::killers(t, p));
+    if supports::may_start(t, p, dang) {
+        return 0;
+    }
+    supports::cands(s, b, adders, dang)
+}
+
+// The same, if p is a condition of b.
+fn condition(s: &State, t: &Tables, b: usize, p: usize) -> u32
+    requires { ⌜ b ≤ 24 ⌝ }
+    ensures { λ r. ⌜ (T (there (view (now (s .entry))) (who b)) → (P : Search) → Lent (now (t .entry)) P → Chosen P (now (s .entry)) r) ⌝ }
+{
+    if 64 <= p {
+        return 0;
+    }
+    if !facts::has(lent::wants(t, b), p) {
+        return 0;
+    }
+    several(s, t, b, p)
+}
+
+// The word more, if no job of it is used.
+fn noted(g: Groups, w: u32) -> Groups
+    ensures { λ r. ⌜ ((P : Search) (s : List ℕ) → Chosen P s w → AllChosen P s (g .words) 24 → AllChosen P s (r .words) 24) ⌝ }
+{
+    let j = cells::lowest(w);
+    if 24 <= j {
+        return g;
+    }
+    if w & g.used != 0 {
+        return g;
+    }
+    let mut words = g.words;
+    words[j] = w;
+    Groups {
+        words,
+        used: g.used | w,
+    }
+}
+
+// The words of the conditions of b, or of the goals, more, if b is there.
+fn consumer(s: &State, t: &Tables, b: usize, g: Groups) -> Groups
+    requires { ⌜ b ≤ 24 ⌝ }
+    ensures { λ r. ⌜ Grows (now (s .entry)) (now (t .entry)) g r ⌝ }
+{
+    if !supports::there_for(s, b) {
+        return g;
+    }
+    let mut x = g;
+    let mut w = lent::wants(t, b);
+    while w != 0 {
+        x = noted(x, condition(s, t, b, lent::first(w)));
+        w = facts::rest(w);
+    }
+    x
+}
+
+// The jobs inside, each alone, and the words of all consumers.
+fn words_of(s: &State, t: &Tables) -> Groups
+    ensures { λ r. ⌜ ((P : Search) → Lent (now (t .entry)) P → AllChosen P (now (s .entry)) (r .words) 24) ⌝ }
+{
+    let mut g = alone(s);
+    for b in 0..25 {
+        g = consumer(s, t, b, g);
+    }
+    g
+}
+
+// Some jobs that exclude each other have no room: jobs inside, or with them one of several each.
+pub fn crowded(s: &State, t: &Tables) -> bool
+    ensures { λ r. ⌜ (r ≡ true → (P : Search) → Lent (now (t .entry)) P → Dead P (view (now (s .entry)))) ⌝ }
+{
+    let inside = cells::insides(s);
+    if some_full(s, t, alone(s), inside) {
+        return true;
+    }
+    let g = words_of(s, t);
+    some_full(s, t, g, outside(g.used, inside))
 }

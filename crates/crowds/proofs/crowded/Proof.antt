@@ -1,27 +1,16 @@
-use mathlib.Core.Bool.{false≢true}
 use borrow.Author.Needs.{needs}
 use Rattle.crowds.proofs.crowded.Statement.{statement}
 use Rattle.crowds.proofs.crowded.Tie as tie
-
-abbrev Inv-loop : tie.InvT-loop
-Inv-loop s t last₀ v₀ last v = Unit {0}
-
-abbrev μ-loop : tie.MeasureT-loop
-μ-loop s t last₀ v₀ last v = v
 
 pub crowded-spec : {M : Type 1} → statement M
 crowded-spec =
     tie.close
     (tie.spec
-    Inv-loop
-    μ-loop
-    (λ c κs. search needs)
-    (λ c. tt)
     (λ c κs. search needs)
     (λ c κs. search needs)
     (λ c κs. search needs)
-    (λ c e. c .before .tells .ensures (c .if1 .taken))
+    (λ c e P t. c .before .some-full .ensures (c .if1 .taken) P t (c .before .before .alone .ensures P))
     (λ c κs. search needs)
-    (λ c. c .rest .ensures .less)
-    (λ c. tt)
-    (λ c e. absurd (false≢true e)))
+    (λ c κs. search needs)
+    (λ c κs. search needs)
+    (λ c e P t. c .some-full2 .ensures e P t (c .before .before .words-of .ensures P t)))

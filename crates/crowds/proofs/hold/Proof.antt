@@ -1,22 +1,26 @@
+use native.Mathlib.Nat.{le-trans}
+use native.Mathlib.Omega.{arith}
+use Prim.Native.Nat.{_≤_, _<_}
 use Rattle.facts.proofs.Walks.{Done, done-none, done-all}
 use Rattle.crowds.specs.Heaps.{Kept}
 use Rattle.crowds.proofs.Laws.{hold-next}
 use denote.Ref.{now}
-use Prim.Native.Nat.{_<_}
 use borrow.Author.Needs.{needs}
 use Rattle.crowds.proofs.hold.Statement.{statement}
 use Rattle.crowds.proofs.hold.Tie as tie
 
 abbrev Inv-loop : tie.InvT-loop
-Inv-loop s t w a m₀ v₀ m v = Done (λ b. b < 24 → Kept s t a m b) w v
+Inv-loop s t a w m x₀ v₀ x v = (x ≤ m) × Done (λ b. b < 24 → Kept s t a x b) w v
 
 abbrev μ-loop : tie.MeasureT-loop
-μ-loop s t w a m₀ v₀ m v = v
+μ-loop s t a w m x₀ v₀ x v = v
 
 loop-again : tie.Need-loop-again Inv-loop μ-loop
 loop-again c =
-    let a = c .before .before .before .before .before .args in
-    hold-next (now (a .s)) (now (a .t)) (a .a) (c .before .before .before .before .loop .inv) (c .rest .ensures) (c .before .before .lowest .ensures) (c .before .nearer .ensures)
+    let d = c .before .before .before .before in
+    let a = d .before .before .args in
+    let n = c .before .nearer .ensures in
+    (le-trans (n .less) (d .loop .inv .0), hold-next (now (a .s)) (now (a .t)) (a .a) (d .loop .inv .1) (c .rest .ensures) (c .before .before .lowest .ensures) n)
 
 pub hold-spec : {M : Type 1} → statement M
 hold-spec =
@@ -24,10 +28,11 @@ hold-spec =
     (tie.spec
     Inv-loop
     μ-loop
-    (λ c. done-none)
+    (λ c. record { less = omega arith; kept = λ l. absurd (omega arith) })
+    (λ c. (omega arith, done-none))
     (λ c κs. search needs)
     (λ c κs. search needs)
     (λ c κs. search needs)
     (λ c. c .rest .ensures .less)
     loop-again
-    (λ c b h l. done-all (c .before .loop .inv) (c .loop-test .left) b h l))
+    (λ c. record { less = c .before .loop .inv .0; kept = λ l b h i. done-all (c .before .loop .inv .1) (c .loop-test .left) b h i }))

@@ -1,25 +1,25 @@
-use mathlib.Core.Path.{_≡_}
-use Prim.Native.Nat.{_-_, _≤_}
+use mathlib.Core.Logic.{inr}
 use native.Mathlib.Omega.{arith}
-use lib.ListN.{length}
-use Rattle.facts.proofs.Lists.{set-more}
-use Rattle.crowds.specs.Heaps.{Holds, AllHold}
+use Prim.Native.Nat.{_<_}
+use Rattle.facts.proofs.Walks.{Done, done-none, done-all}
+use Rattle.crowds.specs.Heaps.{KeptAll}
+use Rattle.crowds.proofs.Laws.{holds-next}
 use denote.Ref.{now}
 use borrow.Author.Needs.{needs}
 use Rattle.crowds.proofs.holds.Statement.{statement}
 use Rattle.crowds.proofs.holds.Tie as tie
 
 abbrev Inv-loop : tie.InvT-loop
-Inv-loop s t w long₀ a₀ long a = (a ≤ 24) × (length long ≡ 24) × AllHold s t w long a
+Inv-loop s t w group others x₀ v₀ x v = Done (λ a. a < 24 → KeptAll s t others a x) group v
 
 abbrev μ-loop : tie.MeasureT-loop
-μ-loop s t w long₀ a₀ long a = 24 - a
+μ-loop s t w group others x₀ v₀ x v = v
 
 loop-again : tie.Need-loop-again Inv-loop μ-loop
 loop-again c =
-    let l = c .before .before .loop in
-    let a = c .before .before .before .args in
-    (omega arith, search needs, set-more (Holds (now (a .s)) (now (a .t)) (a .w)) (l .long) (l .a) _ 0 (omega (arith, l .inv .1)) (l .inv .2) (c .hold-if .ensures))
+    let d = c .before .before .before .before in
+    let a = d .before .before .before .before .args in
+    holds-next (now (a .s)) (now (a .t)) _ (d .loop .inv) (c .rest .ensures) (c .before .before .lowest .ensures) (c .before .hold .ensures)
 
 pub holds-spec : {M : Type 1} → statement M
 holds-spec =
@@ -27,11 +27,13 @@ holds-spec =
     (tie.spec
     Inv-loop
     μ-loop
-    (λ c. (omega arith, search needs, λ a l. absurd (omega arith)))
     (λ c κs. search needs)
-    (λ c. search needs)
-    (λ c. search needs)
-    (λ c. search needs)
-    (λ c. search needs)
+    (λ c a b h l i n k. inr (omega arith))
+    (λ c κs. search needs)
+    (λ c. done-none)
+    (λ c κs. search needs)
+    (λ c κs. search needs)
+    (λ c κs. search needs)
+    (λ c. c .rest .ensures .less)
     loop-again
-    (λ c a l. c .before .loop .inv .2 a (omega arith)))
+    (λ c a b h l i n k. done-all (c .before .loop .inv) (c .loop-test .left) a h l b (c .before .before .outside .ensures b i n) k))

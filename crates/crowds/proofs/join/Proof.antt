@@ -9,26 +9,28 @@ use Rattle.crowds.proofs.join.Tie as tie
 
 returns-4 : tie.Need-returns-4
 returns-4 c =
-    let d = c .before .before .before .before .before .before .before .before .before .before in
-    let a = d .before .before .args in
-    let k = d .before .joins .ensures (not-false _ (d .if1 .left)) in
-    rw (c .before .before .before .with .ensures, c .before .before .wide .ensures)
-    (heaps (now (a .s)) (now (a .t)) (a .t3) (a .h) (a .j) _ k refl (omega arith) (omega arith) (c .later .ensures .0)
-    (omega (arith, c .later .ensures .1, c .before .before .before .before .sum .ensures .0, c .before .before .before .before .before .hi .ensures)))
+    let l = c .before .before .before .before .before in
+    let d = l .before .before .before .before .before in
+    let f = d .before .before .before in
+    let a = f .args in
+    rw (c .before .before .wide .ensures)
+    (heaps (now (a .s)) (now (a .t)) (a .t3) (a .h) (a .j) _ (f .pre) refl refl (d .before .joins .ensures (not-false _ (d .if1 .left))) (omega arith) (omega arith) (c .later .ensures .0)
+    (λ b h k. omega (arith, c .later .ensures .1, c .before .before .before .before .sum .ensures .0, l .latest .ensures b h k)))
 
 pub join-spec : {M : Type 1} → statement M
 join-spec =
     tie.close
     (tie.spec
+    (λ c. search needs)
+    (λ c. search needs)
     (λ c κs. search needs)
     (λ c. heaps-same)
-    (λ c. omega (arith, c .before .joins .ensures (not-false _ (c .if1 .left)) .below))
-    (λ c. c .before .joins .ensures (not-false _ (c .if1 .left)) .below)
+    (λ c. search needs)
+    (λ c. search needs)
     (λ c. heaps-same)
     (λ c. heaps-same)
-    (λ c κs. let d = c .before .before .before .before in d .before .joins .ensures (not-false _ (d .if1 .left)) .below)
     (λ c κs. search needs)
-    (λ c κs. let d = c .before .before .before .before .before .before in d .before .joins .ensures (not-false _ (d .if1 .left)) .below)
+    (λ c κs. search needs)
     (λ c κs. search needs)
     (λ c. search needs)
     (λ c κs. search needs)

@@ -1,19 +1,18 @@
 use mathlib.Core.Bool.{false≢true}
 use native.Mathlib.Omega.{arith}
-use Rattle.cells.proofs.Tests.{passed}
+use borrow.Author.Tests.{not-false}
 use borrow.Author.Needs.{needs}
 use Rattle.crowds.proofs.joins.Statement.{statement}
 use Rattle.crowds.proofs.joins.Tie as tie
 
-returns-5 : tie.Need-returns-5
-returns-5 c e =
-    let d = c .before .before in
+returns-4 : tie.Need-returns-4
+returns-4 c e =
+    let d = c .before .before .before in
     record {
-      below = omega arith;
-      late = omega arith;
-      inside = passed (d .before .before .before .inside .ensures) (d .before .before .if3 .left);
-      among = passed (d .before .has .ensures) (d .if4 .left);
-      rivals = rw (c .before .hits .ensures) at (c .within .ensures .yea e);
+      some = λ z. omega (arith, d .before .before .if1 .left, z);
+      among = d .before .within .ensures .yea (not-false _ (d .if2 .left));
+      late = c .before .before .late .ensures (not-false _ (c .before .if3 .left));
+      rivals = c .clash .ensures e;
     }
 
 pub joins-spec : {M : Type 1} → statement M
@@ -26,7 +25,4 @@ joins-spec =
     (λ c κs. search needs)
     (λ c e. absurd (false≢true e))
     (λ c κs. search needs)
-    (λ c e. absurd (false≢true e))
-    (λ c κs. search needs)
-    (λ c κs. search needs)
-    returns-5)
+    returns-4)

@@ -10,9 +10,8 @@ nearer-spec =
     tie.close
     (tie.spec
     (λ c. record { less = omega arith; kept = λ l. absurd (omega arith) })
-    (λ c. record { less = omega arith; kept = λ l n. absurd (n (omega arith)) })
     (λ c κs. search needs)
-    (λ c. record { less = omega arith; kept = λ l n. inl (test-yes (c .before .never .ensures) (c .if3 .taken)) })
+    (λ c. record { less = omega arith; kept = λ l. inl (test-yes (c .before .never .ensures) (c .if2 .taken)) })
     (λ c κs. search needs)
-    (λ c. record { less = omega arith; kept = λ l n. inr (omega arith) })
-    (λ c. record { less = omega arith; kept = λ l n. inr (omega arith) }))
+    (λ c. record { less = omega arith; kept = λ l. inr (omega arith) })
+    (λ c. record { less = omega arith; kept = λ l. inr (omega arith) }))

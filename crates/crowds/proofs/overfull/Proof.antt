@@ -4,10 +4,13 @@ use Rattle.crowds.proofs.overfull.Statement.{statement}
 use Rattle.crowds.proofs.overfull.Tie as tie
 
 abbrev Inv-loop : tie.InvT-loop
-Inv-loop s t w c v₀ v = Unit {0}
+Inv-loop s t w c last₀ v₀ last v = Unit {0}
 
 abbrev μ-loop : tie.MeasureT-loop
-μ-loop s t w c v₀ v = v
+μ-loop s t w c last₀ v₀ last v = v
+
+returns : tie.Need-returns Inv-loop μ-loop
+returns c e P t all = c .before .full-at .ensures (c .if1 .taken) P t (record { hold = c .before .before .before .before .before .before .before .before .lengths .ensures; some = all })
 
 pub overfull-spec : {M : Type 1} → statement M
 overfull-spec =
@@ -17,10 +20,12 @@ overfull-spec =
     μ-loop
     (λ c κs. search needs)
     (λ c κs. search needs)
+    (λ c κs. search needs)
     (λ c. tt)
     (λ c κs. search needs)
     (λ c κs. search needs)
-    (λ c e P t. c .before .full-at .ensures (c .if1 .taken) P t (c .before .before .before .before .before .before .holds .ensures))
+    (λ c κs. search needs)
+    returns
     (λ c κs. search needs)
     (λ c. c .rest .ensures .less)
     (λ c. tt)

@@ -3,10 +3,10 @@ use Rattle.crowds.proofs.soonest.Statement.{statement}
 use Rattle.crowds.proofs.soonest.Tie as tie
 
 abbrev Inv-loop : tie.InvT-loop
-Inv-loop s t w best₀ v₀ best v = Unit {0}
+Inv-loop gone w best₀ v₀ best v = Unit {0}
 
 abbrev μ-loop : tie.MeasureT-loop
-μ-loop s t w best₀ v₀ best v = v
+μ-loop gone w best₀ v₀ best v = v
 
 pub soonest-spec : {M : Type 1} → statement M
 soonest-spec =
