@@ -1,3 +1,4 @@
 pub mod Spans
 pub mod Overload
+pub mod Edges
 pub mod Laws

@@ -12,8 +12,9 @@ use Rattle.facts.proofs.Bools.{or-l, or-r, or-cases}
 use Rattle.facts.proofs.Sets.{has-zero, has-or}
 use Rattle.rules.specs.Plans.{Plan, interfere}
 use Rattle.rules.proofs.Clash.{interfere-at}
-use Rattle.states.specs.State.{Search, St, Left, Dead}
-use Rattle.crowds.specs.Crowds.{Group, Placed, Against, AllAgainst, Crowd, total, Sound, Seen, AllIn, Pile}
+use Rattle.states.specs.State.{Search, St, Left, Dead, More}
+use Rattle.states.proofs.Keep.{left-back}
+use Rattle.crowds.specs.Crowds.{Group, SomeOf, Placed, Against, AllAgainst, Crowd, total, Sound, Seen, AllIn, Pile}
 use Rattle.crowds.proofs.Spans.{Span, Clear, AllClear, Spread, Within, length, room}
 
 module _ (P : Search) (s : St) (from till : ℕ) where
@@ -118,3 +119,41 @@ module _ (P : Search) (s : St) where
 
     pub pile-dead : (from till sum members : ℕ) → Pile P s all from till sum members → till < from + sum → Dead P s
     pile-dead from till sum members p h = overload P s from till (p .groups) (p .after) (p .crowd) (omega (arith, p .sum-is))
+
+-- what a state says more keeps a group and a pile
+module _ (P : Search) (s t : St) (m : More s t) where
+  pub some-more : (w : ℕ) → SomeOf P s w → SomeOf P t w
+  some-more w x Q l = x Q (left-back m l)
+
+  pub sound-more : (all : ℕ) (g : Group) → Sound P s all g → Sound P t all g
+  sound-more all g x = record { some = some-more (g .jobs) (x .some); inner = x .inner; spaced = λ a b i j n Q l. x .spaced a b i j n Q (left-back m l) }
+
+  pub seen-more : (g : Group) (others low gone : ℕ) → Seen P s g others low gone → Seen P t g others low gone
+  seen-more g others low gone x = record { hits = x .hits; lo = λ a i. omega (arith, x .lo a i, m .lo a); hi = λ a i. omega (arith, x .hi a i, m .hi a) }
+
+  against-more : (g h : Group) → Against P s g h → Against P t g h
+  against-more g h x = record { hit = x .hit; there = λ a b i j Q l. x .there a b i j Q (left-back m l); back = λ a b i j Q l. x .back a b i j Q (left-back m l) }
+
+  all-against-more : (g : Group) (l : List Group) → AllAgainst P s g l → AllAgainst P t g l
+  all-against-more g [] x = tt
+  all-against-more g (h ∷ l) (x, r) = (against-more g h x, all-against-more g l r)
+
+  crowd-more : (from till : ℕ) (l : List Group) → Crowd P s from till l → Crowd P t from till l
+  crowd-more from till [] c = tt
+  crowd-more from till (g ∷ l) (p, a, c) =
+      (record { some = some-more (g .jobs) (p .some); lo = λ b i. omega (arith, p .lo b i, m .lo b); hi = λ b i. omega (arith, p .hi b i, m .hi b) }, all-against-more g l a, crowd-more from till l c)
+
+  all-in-more : (all w : ℕ) (l : List Group) → AllIn P s all w l → AllIn P t all w l
+  all-in-more all w [] k = tt
+  all-in-more all w (g ∷ l) ((x, k), r) = ((sound-more all g x, k), all-in-more all w l r)
+
+  pub pile-more : (all from till sum members : ℕ) → Pile P s all from till sum members → Pile P t all from till sum members
+  pile-more all from till sum members p = record {
+    groups = p .groups;
+    crowd = crowd-more from till (p .groups) (p .crowd);
+    known = all-in-more all members (p .groups) (p .known);
+    sum-is = p .sum-is;
+    after = p .after;
+    lo = λ a i. omega (arith, p .lo a i, m .lo a);
+    hi = λ a i. omega (arith, p .hi a i, m .hi a);
+  }

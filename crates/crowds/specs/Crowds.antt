@@ -6,7 +6,7 @@ use Prim.Native.Nat.{ℕ, _+_, _≤_}
 use lib.Dec.{T}
 use Rattle.facts.specs.Facts.{has}
 use Rattle.rules.specs.Plans.{Plan, interfere}
-use Rattle.states.specs.State.{Search, Has, Ahead, St, Left}
+use Rattle.states.specs.State.{Search, Has, Ahead, St, Left, Sure}
 
 -- a word of jobs of which one is in, counted as one job: it keeps all others away for `long`
 pub record Group : Type 0 where
@@ -73,3 +73,26 @@ pub record Pile (P : Search) (s : St) (all from till sum members : ℕ) : Type 0
   pub after : from ≤ till
   pub lo : (a : ℕ) → T (has members a) → from ≤ s .lo a
   pub hi : (a : ℕ) → T (has members a) → s .hi a ≤ till
+
+-- ── a job beside a crowd ──
+
+-- k and any job of the group interfere, and each keeps the other away: k for n
+pub record Beside (P : Search) (s : St) (k n : ℕ) (g : Group) : Type 0 where
+  pub hit : (a : ℕ) → T (has (g .jobs) a) → T (interfere (P .problem) k a)
+  pub there : (a : ℕ) → T (has (g .jobs) a) → Away P s k n a
+  pub back : (a : ℕ) → T (has (g .jobs) a) → Away P s a (g .long) k
+
+abbrev pub AllBeside : Search → St → (k n : ℕ) → List Group → Type 0
+AllBeside P s k n [] = Unit {0}
+AllBeside P s k n (g ∷ l) = Beside P s k n g × AllBeside P s k n l
+
+-- every job of the group is over before k; k is over before every job of it
+abbrev pub Precede : Search → St → (k : ℕ) → Group → Type 0
+Precede P s k g = (a : ℕ) → T (has (g .jobs) a) → Sure P s a k
+
+abbrev pub Follow : Search → St → (k : ℕ) → Group → Type 0
+Follow P s k g = (a : ℕ) → T (has (g .jobs) a) → Sure P s k a
+
+abbrev pub All : (Group → Type 0) → List Group → Type 0
+All F [] = Unit {0}
+All F (g ∷ l) = F g × All F l

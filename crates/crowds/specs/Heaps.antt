@@ -2,14 +2,14 @@
 -- Assumes nothing.
 use mathlib.Core.Path.{_≡_}
 use mathlib.Core.Logic.{_⊎_, _≢_}
-use mathlib.Core.Bool.{Bool, true}
 use mathlib.Core.List.{List}
 use Prim.Native.Nat.{ℕ, _≤_, _<_}
 use lib.Dec.{T}
 use lib.ListN.{getD}
 use Rattle.facts.specs.Facts.{has, Covers}
-use Rattle.states.specs.State.{Search, Dead}
-use Rattle.cells.specs.View.{view}
+use Rattle.rules.specs.Plans.{Plan}
+use Rattle.states.specs.State.{Search}
+use Rattle.cells.specs.View.{view, Before}
 use Rattle.lent.specs.Lent.{hitsOf, waitOf, Lent}
 use Rattle.crowds.specs.Crowds.{SomeOf, Pile}
 use Rattle.crowds.specs.declared.Groups.{Groups}
@@ -30,9 +30,10 @@ AllChosen P s words n = (j : ℕ) → j < n → Chosen P s (getD words j 0)
 abbrev pub Grows : (s L : List ℕ) (g r : Groups) → Type 0
 Grows s L g r = (P : Search) → Lent L P → AllChosen P s (g .words) 24 → AllChosen P s (r .words) 24
 
--- true only where no plan is left, if the groups are such words
-abbrev pub Told : (s L : List ℕ) (g : Groups) (r : Bool) → Type 0
-Told s L g r = r ≡ true → (P : Search) → Lent L P → AllChosen P s (g .words) 24 → Dead P (view s)
+-- the table is the problem's, and the groups are such words
+pub record Offered (L s : List ℕ) (g : Groups) (P : Search) : Type 0 where
+  pub lent : Lent L P
+  pub some : AllChosen P s (g .words) 24
 
 -- ── how long a group keeps others away ──
 
@@ -108,6 +109,24 @@ pub record Heaps (s L : List ℕ) (c : Crowd) (h r : Heap) : Type 0 where
   pub same : r .from ≡ h .from
   pub piled : (P : Search) → Lent L P → Fair P s L c → Piled P s (c .jobs) h → Piled P s (c .jobs) r
 
--- true only where no plan is left, if the crowd is fair
-abbrev pub Full : (s L : List ℕ) (c : Crowd) (r : Bool) → Type 0
-Full s L c r = r ≡ true → (P : Search) → Lent L P → Fair P s L c → Dead P (view s)
+-- the table is the problem's, and the crowd is fair
+pub record Trusted (L s : List ℕ) (c : Crowd) (P : Search) : Type 0 where
+  pub lent : Lent L P
+  pub fair : Fair P s L c
+
+-- ── a job beside the heap ──
+
+-- the table is the problem's, and the heap one of the crowd w
+pub record Heaped (L s : List ℕ) (w : ℕ) (h : Heap) (P : Search) : Type 0 where
+  pub lent : Lent L P
+  pub piled : Piled P s w h
+
+-- and job k of the crowd interferes with all of it
+pub record Stands (L s : List ℕ) (w : ℕ) (h : Heap) (k : ℕ) (P : Search) : Type 0 where
+  pub heaped : Heaped L s w h P
+  pub among : T (has w k)
+  pub rivals : Covers (hitsOf L k) (h .members)
+
+-- job k is over before every job of the word
+abbrev pub AllAfter : (jobs k : ℕ) → Search → Plan → Type 0
+AllAfter v k P Q = (a : ℕ) → T (has v a) → Before k a P Q

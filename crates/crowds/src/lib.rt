@@ -4,12 +4,12 @@ ghost use mathlib.Core.Bool.{true};
 ghost use mathlib.Core.List.{List};
 ghost use Prim.Native.Nat.{ℕ, _≤_, _<_};
 ghost use lib.Dec.{T};
-ghost use Rattle.states.specs.State.{Search, there, Dead};
-ghost use Rattle.cells.specs.View.{view};
+ghost use Rattle.states.specs.State.{Search, there};
+ghost use Rattle.cells.specs.View.{view, Prunes, Says, Before};
 ghost use Rattle.facts.specs.Facts.{has, Covers};
 ghost use Rattle.lent.specs.Lent.{wantsOf, hitsOf, Lent};
 ghost use Rattle.lent.specs.Consumers.{who};
-ghost use Rattle.crowds.specs.Heaps.{Nearer, Held, Outside, Holds, AllHold, Later, Latest, Late, Clash, Joins, Heaps, Full, Chosen, AllChosen, Grows, Told};
+ghost use Rattle.crowds.specs.Heaps.{Nearer, Held, Outside, Holds, AllHold, Later, Latest, Late, Clash, Joins, Heaps, Chosen, AllChosen, Grows, Stands, AllAfter, Heaped, Trusted, Offered};
 use cells::State;
 use lent::Tables;
 
@@ -25,6 +25,7 @@ pub struct Crowd {
     pub words: [u32; 24],
     pub long: [u32; 24],
     pub order: [usize; 24],
+    pub most: u32,
 }
 
 // Groups of a crowd from a time on: their jobs, what they take together, and when the last is gone.
@@ -295,9 +296,128 @@ fn join(s: &State, t: &Tables, c: Crowd, j: usize, h: Heap) -> Heap
     }
 }
 
-// From this time on the groups of the crowd have no room one beside the other.
-fn full_from(s: &State, t: &Tables, c: Crowd, from: u32) -> bool
-    ensures { λ r. ⌜ Full (now (s .entry)) (now (t .entry)) c r ⌝ }
+// The smaller of two times.
+fn sooner(x: u64, y: u64) -> u64
+    ensures { λ r. ⌜ (r ≤ x) × (r ≤ y) ⌝ }
+{
+    if x < y {
+        return x;
+    }
+    y
+}
+
+// Job k comes behind all of the heap, if it has room nowhere else.
+fn last(s: &mut State, t: &Tables, w: u32, h: Heap, k: usize)
+    requires { ⌜ (k < 24) × (h .sum ≤ 5000000) ⌝ }
+    ensures { λ _. ⌜ Prunes (Stands (now (t .entry)) (now (s .entry)) w h k) (now (s .entry)) (now (s .exit)) ⌝ }
+{
+    let low = sooner(cells::wide(h.from), cells::wide(cells::lo(s, k)));
+    let n = cells::wide(lent::step(t, k));
+    if h.till < low + (n + h.sum) {
+        cells::put_sures(s, k, h.members);
+    }
+}
+
+// Job k is over before job a.
+fn ahead(s: &mut State, k: usize, a: usize)
+    requires { ⌜ k < 24 ⌝ }
+    ensures { λ _. ⌜ Says (Before k a) (now (s .entry)) (now (s .exit)) ⌝ }
+{
+    if 24 <= a {
+        return;
+    }
+    cells::put_sure(s, k, a);
+}
+
+// Job k is over before all jobs of the word.
+fn ahead_all(s: &mut State, k: usize, w: u32)
+    requires { ⌜ k < 24 ⌝ }
+    ensures { λ _. ⌜ Says (AllAfter w k) (now (s .entry)) (now (s .exit)) ⌝ }
+{
+    let mut v = w;
+    while v != 0 {
+        ahead(s, k, cells::lowest(v));
+        v = cells::rest(v);
+    }
+}
+
+// Job k comes before all of the heap, if it has room nowhere else.
+fn first(s: &mut State, t: &Tables, w: u32, h: Heap, k: usize)
+    requires { ⌜ (k < 24) × (h .sum ≤ 5000000) ⌝ }
+    ensures { λ _. ⌜ Prunes (Stands (now (t .entry)) (now (s .entry)) w h k) (now (s .entry)) (now (s .exit)) ⌝ }
+{
+    let n = lent::step(t, k);
+    let high = later(h.till, cells::sum(cells::hi(s, k), n));
+    if high < cells::wide(h.from) + (cells::wide(n) + h.sum) {
+        ahead_all(s, k, h.members);
+    }
+}
+
+// Job k waits for all of the heap, if they surely come before it.
+fn after(s: &mut State, t: &Tables, w: u32, h: Heap, k: usize)
+    requires { ⌜ (k < 24) × (h .sum ≤ 5000000) ⌝ }
+    ensures { λ _. ⌜ Prunes (Stands (now (t .entry)) (now (s .entry)) w h k) (now (s .entry)) (now (s .exit)) ⌝ }
+{
+    if h.sum == 0 {
+        return;
+    }
+    if cells::within(h.members, cells::row_sure(s, k)) {
+        orders::from(s, k, cells::wide(h.from) + h.sum);
+    }
+}
+
+// All three for a job of the crowd that interferes with all of the heap.
+fn beside(s: &mut State, t: &Tables, w: u32, h: Heap, k: usize)
+    requires { ⌜ h .sum ≤ 5000000 ⌝ }
+    ensures { λ _. ⌜ Prunes (Heaped (now (t .entry)) (now (s .entry)) w h) (now (s .entry)) (now (s .exit)) ⌝ }
+{
+    if 24 <= k {
+        return;
+    }
+    if !cells::has(w, k) {
+        return;
+    }
+    if !cells::within(h.members, lent::hits(t, k)) {
+        return;
+    }
+    last(s, t, w, h, k);
+    first(s, t, w, h, k);
+    after(s, t, w, h, k);
+}
+
+// The same for every job of the crowd beside the heap.
+fn beside_all(s: &mut State, t: &Tables, w: u32, h: Heap)
+    requires { ⌜ h .sum ≤ 5000000 ⌝ }
+    ensures { λ _. ⌜ Prunes (Heaped (now (t .entry)) (now (s .entry)) w h) (now (s .entry)) (now (s .exit)) ⌝ }
+{
+    let mut v = outside(w, h.members);
+    while v != 0 {
+        beside(s, t, w, h, cells::lowest(v));
+        v = cells::rest(v);
+    }
+}
+
+// The same, if the heap leaves less room than `most`, which saves work.
+fn beside_if(s: &mut State, t: &Tables, w: u32, h: Heap, most: u32)
+    requires { ⌜ h .sum ≤ 5000000 ⌝ }
+    ensures { λ _. ⌜ Prunes (Heaped (now (t .entry)) (now (s .entry)) w h) (now (s .entry)) (now (s .exit)) ⌝ }
+{
+    if h.till < cells::sum(h.from, most) + h.sum {
+        beside_all(s, t, w, h);
+    }
+}
+
+// m, if the words differ. Any number is right.
+fn room(old: u32, new: u32, m: u32) -> u32 {
+    if old == new {
+        return 0;
+    }
+    m
+}
+
+// What the groups of the crowd from this time on leave no room for; whether they have none themselves. Any answer is right.
+fn full_from(s: &mut State, t: &Tables, c: Crowd, from: u32) -> bool
+    ensures { λ _. ⌜ Prunes (Trusted (now (t .entry)) (now (s .entry)) c) (now (s .entry)) (now (s .exit)) ⌝ }
 {
     let mut h = Heap {
         from,
@@ -310,22 +430,48 @@ fn full_from(s: &State, t: &Tables, c: Crowd, from: u32) -> bool
         if 24 <= j {
             return false;
         }
+        let old = h.members;
         h = join(s, t, c, j, h);
         if h.till < cells::wide(from) + h.sum {
+            cells::kill(s);
             return true;
         }
+        beside_if(s, t, c.jobs, h, room(old, h.members, c.most));
     }
     false
 }
 
 // The same, if it is another time than the last.
-fn full_at(s: &State, t: &Tables, c: Crowd, from: u32, last: u32) -> bool
-    ensures { λ r. ⌜ Full (now (s .entry)) (now (t .entry)) c r ⌝ }
+fn full_at(s: &mut State, t: &Tables, c: Crowd, from: u32, last: u32) -> bool
+    ensures { λ _. ⌜ Prunes (Trusted (now (t .entry)) (now (s .entry)) c) (now (s .entry)) (now (s .exit)) ⌝ }
 {
     if from == last {
         return false;
     }
     full_from(s, t, c, from)
+}
+
+// The longer of m and how long job j takes.
+fn longer(t: &Tables, j: usize, m: u32) -> u32 {
+    if 24 <= j {
+        return m;
+    }
+    let x = lent::step(t, j);
+    if m < x {
+        return x;
+    }
+    m
+}
+
+// How long the longest job of the word takes.
+fn longest(t: &Tables, w: u32) -> u32 {
+    let mut m: u32 = 0;
+    let mut v = w;
+    while v != 0 {
+        m = longer(t, cells::lowest(v), m);
+        v = cells::rest(v);
+    }
+    m
 }
 
 // The earliest start of job i. Any time is right.
@@ -337,8 +483,8 @@ fn earliest(s: &State, i: usize) -> u32 {
 }
 
 // The groups with these jobs have no room one beside the other.
-fn overfull(s: &State, t: &Tables, g: Groups, w: u32) -> bool
-    ensures { λ r. ⌜ Told (now (s .entry)) (now (t .entry)) g r ⌝ }
+fn overfull(s: &mut State, t: &Tables, g: Groups, w: u32) -> bool
+    ensures { λ _. ⌜ Prunes (Offered (now (t .entry)) (now (s .entry)) g) (now (s .entry)) (now (s .exit)) ⌝ }
 {
     let words = g.words;
     let long = lengths(s, t, w, words);
@@ -349,6 +495,7 @@ fn overfull(s: &State, t: &Tables, g: Groups, w: u32) -> bool
         words,
         long,
         order,
+        most: longest(t, w),
     };
     let mut last: u32 = 4294967295;
     let mut v = w;
@@ -392,8 +539,8 @@ fn gather(t: &Tables, g: Groups, i: usize) -> u32 {
 }
 
 // The groups with these jobs have no room, if there are two and they are others than the last.
-fn tells(s: &State, t: &Tables, g: Groups, w: u32, last: u32) -> bool
-    ensures { λ r. ⌜ Told (now (s .entry)) (now (t .entry)) g r ⌝ }
+fn tells(s: &mut State, t: &Tables, g: Groups, w: u32, last: u32) -> bool
+    ensures { λ _. ⌜ Prunes (Offered (now (t .entry)) (now (s .entry)) g) (now (s .entry)) (now (s .exit)) ⌝ }
 {
     if w == 0 {
         return false;
@@ -408,8 +555,8 @@ fn tells(s: &State, t: &Tables, g: Groups, w: u32, last: u32) -> bool
 }
 
 // Some groups that exclude each other have no room, one of them that of a job of the word.
-fn some_full(s: &State, t: &Tables, g: Groups, first: u32) -> bool
-    ensures { λ r. ⌜ Told (now (s .entry)) (now (t .entry)) g r ⌝ }
+fn some_full(s: &mut State, t: &Tables, g: Groups, first: u32) -> bool
+    ensures { λ _. ⌜ Prunes (Offered (now (t .entry)) (now (s .entry)) g) (now (s .entry)) (now (s .exit)) ⌝ }
 {
     let mut last: u32 = 0;
     let mut v = first;
@@ -537,12 +684,13 @@ fn words_of(s: &State, t: &Tables) -> Groups
     g
 }
 
-// Some jobs that exclude each other have no room: jobs inside, or with them one of several each.
-pub fn crowded(s: &State, t: &Tables) -> bool
-    ensures { λ r. ⌜ (r ≡ true → (P : Search) → Lent (now (t .entry)) P → Dead P (view (now (s .entry)))) ⌝ }
+// What jobs that exclude each other leave no room for: jobs inside, and with them one of several each; whether they have none themselves.
+pub fn crowded(s: &mut State, t: &Tables) -> bool
+    ensures { λ _. ⌜ Prunes (Lent (now (t .entry))) (now (s .entry)) (now (s .exit)) ⌝ }
 {
     let inside = cells::insides(s);
-    if some_full(s, t, alone(s), inside) {
+    let a = alone(s);
+    if some_full(s, t, a, inside) {
         return true;
     }
     let g = words_of(s, t);

@@ -290,7 +290,6 @@ fn rare(s: &mut State, t: &Tables)
     ensures { λ _. ⌜ Prunes (Lent (now (t .entry))) (now (s .entry)) (now (s .exit)) ⌝ }
 {
     if crowds::crowded(s, t) {
-        cells::kill(s);
         return;
     }
     distinct::distinct(s, t);

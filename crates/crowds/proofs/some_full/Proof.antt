@@ -1,13 +1,16 @@
-use mathlib.Core.Bool.{false≢true}
+use Rattle.cells.specs.View.{Prunes}
+use Rattle.cells.proofs.Changes.{none, follows}
+use Rattle.crowds.specs.Heaps.{Offered}
+use Rattle.crowds.proofs.Laws.{offered-more}
 use borrow.Author.Needs.{needs}
 use Rattle.crowds.proofs.some_full.Statement.{statement}
 use Rattle.crowds.proofs.some_full.Tie as tie
 
 abbrev Inv-loop : tie.InvT-loop
-Inv-loop s t first g last₀ v₀ last v = Unit {0}
+Inv-loop s₀ t g first last₀ v₀ s last v = Prunes (Offered t s₀ g) s₀ s
 
 abbrev μ-loop : tie.MeasureT-loop
-μ-loop s t first g last₀ v₀ last v = v
+μ-loop s₀ t g first last₀ v₀ s last v = v
 
 pub some-full-spec : {M : Type 1} → statement M
 some-full-spec =
@@ -15,12 +18,12 @@ some-full-spec =
     (tie.spec
     Inv-loop
     μ-loop
-    (λ c. tt)
+    (λ c. none)
     (λ c κs. search needs)
     (λ c κs. search needs)
     (λ c κs. search needs)
-    (λ c e. c .before .tells .ensures (c .if1 .taken))
+    (λ c. follows (c .before .before .before .before .before .before .loop .inv) offered-more (c .before .tells .ensures))
     (λ c κs. search needs)
     (λ c. c .rest .ensures .less)
-    (λ c. tt)
-    (λ c e. absurd (false≢true e)))
+    (λ c. follows (c .before .before .before .before .before .before .before .loop .inv) offered-more (c .before .before .tells .ensures))
+    (λ c. c .before .loop .inv))

@@ -1,4 +1,4 @@
-use Rattle.cells.proofs.Changes.{under}
+use Rattle.cells.proofs.Changes.{then}
 use borrow.Author.Needs.{needs}
 use Rattle.prune.proofs.rare.Statement.{statement}
 use Rattle.prune.proofs.rare.Tie as tie
@@ -8,7 +8,6 @@ rare-spec =
     tie.close
     (tie.spec
     (λ c κs. search needs)
+    (λ c. c .before .crowded .ensures)
     (λ c κs. search needs)
-    (λ c. under (λ P wf e. c .before .before .before .crowded .ensures (c .before .before .if1 .taken) P e) (c .kill .ensures))
-    (λ c κs. search needs)
-    (λ c. c .distinct .ensures))
+    (λ c. then (c .before .before .before .crowded .ensures) (c .distinct .ensures)))
