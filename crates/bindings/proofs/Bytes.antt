@@ -20,12 +20,12 @@ use Rattle.rules.specs.Supports.{Consumer, job, end, startFits, jobFits, name, 
 use Rattle.rules.specs.Pairs.{isJob, feeds, binds}
 use Rattle.tables.specs.declared.Loaded.{Loaded}
 use Rattle.tables.specs.declared.Ask.{Ask}
-use Rattle.tables.specs.Tables.{problem}
-use Rattle.verdict.specs.Offered.{chosen}
+use Rattle.tables.specs.Tables.{jobAt, problem}
+use Rattle.verdict.specs.Steps.{chosen}
 use Rattle.named.specs.declared.Row.{Row}
 use Rattle.named.specs.Named.{inRow, wants, RowOf}
 use Rattle.named.proofs.Tests.{fit-yes, fit-no, no-fact, any-if}
-use Rattle.bindings.specs.Bindings.{pick, rowByte}
+use Rattle.bindings.specs.Steps.{pick, rowByte}
 
 -- ── the byte of a fact ──
 
@@ -120,15 +120,15 @@ module _ (l : Loaded) (q : Ask) (s : List ℕ) (a b : ℕ) where
   binds-out e = simp (eq-eqb _ _ e) (sym (and-false (chosen (getD s a 0))))
 
   -- nor does a job that is not over in time
-  pub binds-no : {y : Bool} → y ≡ (chosen (getD s a 0) && leb (getD s a 0 + getD (l .durations) a 0) (getD s b 0)) → y ≡ false → false ≡ binds (problem l q) (starts s) a b
+  pub binds-no : {y : Bool} → y ≡ (chosen (getD s a 0) && leb (getD s a 0 + jobAt l a .duration) (getD s b 0)) → y ≡ false → false ≡ binds (problem l q) (starts s) a b
   unfolding binds inPlan
-  binds-no e t = simp add-zero (fit-no (chosen (getD s a 0)) (chosen (getD s b 0)) (leb (getD s a 0 + getD (l .durations) a 0) (getD s b 0)) _ (sym e ∙ t))
+  binds-no e t = simp add-zero (fit-no (chosen (getD s a 0)) (chosen (getD s b 0)) (leb (getD s a 0 + jobAt l a .duration) (getD s b 0)) _ (sym e ∙ t))
 
   -- another binds where the jobs interfere or the first is a named support
-  pub binds-yes : {y z : Bool} → (getD s b 0 ≡ 65535 → ⊥) → y ≡ (chosen (getD s a 0) && leb (getD s a 0 + getD (l .durations) a 0) (getD s b 0)) → y ≡ true
+  pub binds-yes : {y z : Bool} → (getD s b 0 ≡ 65535 → ⊥) → y ≡ (chosen (getD s a 0) && leb (getD s a 0 + jobAt l a .duration) (getD s b 0)) → y ≡ true
       → z ≡ (interfere (problem l q) a b || (inPlan (starts s) b && feeds (problem l q) (starts s) a b)) → z ≡ binds (problem l q) (starts s) a b
   unfolding binds inPlan
   binds-yes n e t h =
       h ∙ ap (λ (x : Bool). interfere (problem l q) a b || (not x && feeds (problem l q) (starts s) a b)) (ne-eqb _ _ n)
       ∙ simp (add-zero, ne-eqb _ _ n)
-      (fit-yes (chosen (getD s a 0)) true (leb (getD s a 0 + getD (l .durations) a 0) (getD s b 0)) (interfere (problem l q) a b || feeds (problem l q) (starts s) a b) (sym e ∙ t))
+      (fit-yes (chosen (getD s a 0)) true (leb (getD s a 0 + jobAt l a .duration) (getD s b 0)) (interfere (problem l q) a b || feeds (problem l q) (starts s) a b) (sym e ∙ t))

@@ -15,16 +15,18 @@ use Rattle.rules.specs.Table.{Problem}
 use Rattle.rules.specs.Plans.{Plan, starts}
 use Rattle.rules.specs.Supports.{byteOf, supportByte}
 use Rattle.rules.specs.Pairs.{inOrder, pairBytes}
-use Rattle.rules.proofs.Refused.{went-on}
 use Rattle.tables.specs.declared.Loaded.{Loaded}
 use Rattle.tables.specs.declared.Ask.{Ask}
 use Rattle.tables.specs.declared.Answer.{Answer}
-use Rattle.tables.specs.Tables.{problem, answer, filled}
-use Rattle.verdict.specs.Offered.{offered, Offered, Given}
+use Rattle.tables.specs.Tables.{problem, answer, filled, Judges}
+use Rattle.verdict.specs.Offered.{offered}
+use Rattle.verdict.specs.Steps.{Sound, Given}
 use Rattle.verdict.proofs.Accepted.{offered-checks}
+use Rattle.tables.proofs.Calls.{accepts-by}
 use Rattle.tables.proofs.Laws.{said, numbered, answer-no, changed-new, changed-old}
 use Rattle.tables.proofs.Lent.{filled-more, filled-same}
-use Rattle.bindings.specs.Bindings.{supportVerdict, Supports, pairVerdict, Pairs, written, Puts}
+use Rattle.bindings.specs.Bindings.{supportVerdict, Supports, pairVerdict, Pairs, written}
+use Rattle.bindings.specs.Steps.{Puts}
 use Rattle.bindings.proofs.Count.{pairs-room}
 
 -- the table is too short for 64 bytes a row exactly where it has too few whole rows
@@ -48,9 +50,9 @@ row-more f base p v xs ys e h =
 
 -- ── the call for supports ──
 
-module _ (l : Loaded) (q : Ask) (s old : List ℕ) {r : Answer} (h : Offered (leb (length old / 64) (q .jobs)) l q s r) where
+module _ (l : Loaded) (q : Ask) (s old : List ℕ) {r : Answer} (h : Judges (offered (leb (length old / 64) (q .jobs)) l q s accepted) (Sound (leb (length old / 64) (q .jobs)) l q s) r) where
   said-supports : r ≡ answer (supportVerdict l q s old) 0 0
-  said-supports = h .says ∙ ap (λ (b : Bool). answer (offered (b || ltb (length s) (q .jobs)) l q s accepted) 0 0) (short-is (length old) (q .jobs))
+  said-supports = h .says ∙ ap (λ (b : Bool). answer (offered b l q s accepted) 0 0) (short-is (length old) (q .jobs))
 
   pub no-supports : (r .number ≡ 0 → ⊥) → Supports l q s old old r
   no-supports n = record { says = said-supports; table = sym (changed-old (supportVerdict l q s old) _ old (λ z. n (numbered 0 0 said-supports ∙ z))) }
@@ -63,9 +65,9 @@ module _ (l : Loaded) (q : Ask) (s old : List ℕ) {r : Answer} (h : Offered (le
 
   pub supports-room : r .number ≡ 0 → Given q s × (64 * (q .jobs + 1) ≤ length old)
   supports-room z =
-      let k = h .sound z in
+      let k = h .order z in
       let n : T (ltb (length old) (64 * (q .jobs + 1))) → ⊥ = λ x. k .room (subst T (sym (short-is (length old) (q .jobs))) x) in
-      ((k .few, k .given), at-most (length old) (64 * (q .jobs + 1)) n)
+      ((k .clear .few, k .given), at-most (length old) (64 * (q .jobs + 1)) n)
 
 -- ── a list written behind another ──
 
@@ -107,7 +109,7 @@ puts-next f k p q = rw add-one (puts-more p q)
 
 -- ── the call for pairs ──
 
-module _ (l : Loaded) (q : Ask) (s old : List ℕ) {r : Answer} (h : Offered (ltb (length old) 552) l q s r) where
+module _ (l : Loaded) (q : Ask) (s old : List ℕ) {r : Answer} (h : Judges (offered (ltb (length old) 552) l q s accepted) (Sound (ltb (length old) 552) l q s) r) where
   pub no-pairs : (r .number ≡ 0 → ⊥) → Pairs l q s old old r
   no-pairs n =
       let no : pairVerdict l q s old .number ≡ 0 → ⊥ = λ z. n (numbered 0 0 (h .says) ∙ z) in
@@ -115,7 +117,7 @@ module _ (l : Loaded) (q : Ask) (s old : List ℕ) {r : Answer} (h : Offered (lt
 
   -- the pairs of an accepted plan have room
   pub pairs-fit : r .number ≡ 0 → (length (pairBytes (problem l q) (starts s)) ≤ 552) × (552 ≤ length old)
-  pairs-fit z = let k = h .sound z in (pairs-room (problem l q) (starts s) (k .order) (k .few), at-most (length old) 552 (k .room))
+  pairs-fit z = let k = h .order z in (pairs-room (problem l q) (starts s) (k .clear .order) (k .clear .few), at-most (length old) 552 (k .room))
 
   pub all-pairs : {t : Answer} {bytes : ℕ} (new : List ℕ) → r .number ≡ 0 → Puts (pairBytes (problem l q) (starts s)) 0 old new bytes → t ≡ answer accepted (bytes / 2) 0
       → Pairs l q s old new t
@@ -123,8 +125,7 @@ module _ (l : Loaded) (q : Ask) (s old : List ℕ) {r : Answer} (h : Offered (lt
   all-pairs {t} {bytes} new z p e =
       let zero : pairVerdict l q s old .number ≡ 0 = sym (numbered 0 0 (h .says)) ∙ z in
       let count : bytes ≡ length (pairBytes (problem l q) (starts s)) = omega (arith, p .next) in
-      let none : pairVerdict l q s old ≡ accepted =
-      went-on (offered (ltb (length old) 552 || ltb (length s) (q .jobs)) l q s) (offered-checks (ltb (length old) 552 || ltb (length s) (q .jobs)) l q s) zero accepted in
+      let none : pairVerdict l q s old ≡ accepted = accepts-by (offered-checks (ltb (length old) 552) l q s) (h .says) z in
       record {
         says = e ∙ ap (λ (n : ℕ). answer accepted (n / 2) 0) count ∙ said (length (pairBytes (problem l q) (starts s)) / 2) 0 none;
         list = p .list [] old refl refl ∙ sym (changed-new (pairVerdict l q s old) _ old zero);

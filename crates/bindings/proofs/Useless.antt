@@ -18,21 +18,21 @@ use Rattle.rules.specs.Plans.{starts, inPlan, spoils, interfere, ends, afterIf,
 use Rattle.rules.specs.Verdicts.{late, overlap, clashes, unready, missing, planChecks}
 use Rattle.rules.specs.Supports.{blocks, startFits, jobFits, name, named}
 use Rattle.rules.specs.Pairs.{isJob, feeds, binds, inOrder, pairIf, pairBytes}
+use Rattle.tables.specs.declared.Action.{Action}
 use Rattle.tables.specs.declared.Loaded.{Loaded}
 use Rattle.tables.specs.declared.Ask.{Ask}
 use Rattle.tables.specs.declared.Answer.{Answer}
-use Rattle.tables.specs.Tables.{problem, answer, changed}
+use Rattle.tables.specs.Tables.{noJob, problem, answer, changed}
 use Rattle.tables.proofs.Lent.{filled-rest}
 use Rattle.verdict.specs.Offered.{offered}
 use Rattle.bindings.specs.Bindings.{pairVerdict, Pairs, written}
 
--- four records of the table's 24 places
-abbrev four : (a b c d : ℕ) → List ℕ
-four a b c d = a ∷ b ∷ c ∷ d ∷ replicate 20 0
+abbrev action : (conditions additions deletions duration : ℕ) → Action
+action c a d t = record { conditions = c; additions = a; deletions = d; duration = t }
 
 -- unpack, drench, warm, wash
 abbrev pub jobsU : Loaded
-jobsU = record { conditions = four 1 2 2 2; additions = four 2 4 8 16; deletions = four 1 0 0 4; durations = four 4 2 8 3; lent = 4 }
+jobsU = record { jobs = action 1 2 1 4 ∷ action 2 4 0 2 ∷ action 2 8 0 8 ∷ action 2 16 4 3 ∷ replicate 20 noJob; lent = 4 }
 
 -- five facts, open {0}
 abbrev pub askU : (goals bound : ℕ) → Ask
@@ -43,15 +43,15 @@ record Counted (xs old new : List ℕ) (r : Answer) : Type 0 where
   count : r .value ≡ length xs / 2
   behind : (i : ℕ) → length xs ≤ i → getD new i 0 ≡ getD old i 0
 
-counted : (l : Loaded) (q : Ask) (s xs old new : List ℕ) (r : Answer) → 552 ≤ length old → ltb (length s) (q .jobs) ≡ false → offered false l q s accepted ≡ accepted
+counted : (l : Loaded) (q : Ask) (s xs old new : List ℕ) (r : Answer) → 552 ≤ length old → offered false l q s accepted ≡ accepted
     → pairBytes (problem l q) (starts s) ≡ xs → Pairs l q s old new r → Counted xs old new r
-counted l q s xs old new r m g v e h = record {
+counted l q s xs old new r m v e h = record {
   count = ap (λ (x : Answer). x .value) (h .says ∙ ap (λ (x : Verdict). answer x (length (pairBytes (problem l q) (starts s)) / 2) 0) w) ∙ ap (λ (ys : List ℕ). length ys / 2) e;
   behind = λ i k. ap (λ (ys : List ℕ). getD ys i 0) list ∙ filled-rest (λ i. getD xs i 0) (length xs) old i 0 k;
 }
   where
     w : pairVerdict l q s old ≡ accepted
-    w = ap₂ (λ (a b : Bool). offered (a || b) l q s accepted) (le-ltb (length old) 552 m) g ∙ v
+    w = ap (λ (b : Bool). offered b l q s accepted) (le-ltb (length old) 552 m) ∙ v
 
     list : new ≡ written xs old
     list = h .list ∙ ap₂ (λ (x : Verdict) (ys : List ℕ). changed x (written ys old) old) w e
@@ -70,7 +70,7 @@ pairs3 = refl
 
 -- a made-up count breaks the promise
 pub made-up-count : (old new : List ℕ) (r : Answer) → 552 ≤ length old → r .value ≢ 4 → Pairs jobsU (askU 28 12) plan3 old new r → ⊥
-made-up-count old new r m n h = n (counted jobsU (askU 28 12) plan3 _ old new r m refl accepts3 pairs3 h .count)
+made-up-count old new r m n h = n (counted jobsU (askU 28 12) plan3 _ old new r m accepts3 pairs3 h .count)
 
 -- goals {2, 3}, bound 14, warm after drench, which binds it by nothing
 abbrev pub plan14 : List ℕ
@@ -86,10 +86,10 @@ pairs14 = refl
 
 -- the three pairs of that plan in plan order break the promise, by their count
 pub every-pair : (old new : List ℕ) (r : Answer) → 552 ≤ length old → (r .value ≡ 3) × (take 6 new ≡ 0 ∷ 1 ∷ 0 ∷ 2 ∷ 1 ∷ 2 ∷ []) → Pairs jobsU (askU 12 14) plan14 old new r → ⊥
-every-pair old new r m n h = omega (arith, n .0, counted jobsU (askU 12 14) plan14 _ old new r m refl accepts14 pairs14 h .count)
+every-pair old new r m n h = omega (arith, n .0, counted jobsU (askU 12 14) plan14 _ old new r m accepts14 pairs14 h .count)
 
 -- and whatever count is given, by the bytes, unless the third pair stood there before
 pub third-pair : (old new : List ℕ) (r : Answer) → 552 ≤ length old → getD old 4 0 ≢ 1 → take 6 new ≡ 0 ∷ 1 ∷ 0 ∷ 2 ∷ 1 ∷ 2 ∷ [] → Pairs jobsU (askU 12 14) plan14 old new r → ⊥
 third-pair old new r m n e h =
-    n (sym (counted jobsU (askU 12 14) plan14 _ old new r m refl accepts14 pairs14 h .behind 4 (omega arith)) ∙ sym (getD-take 6 new 4 0 (omega arith))
+    n (sym (counted jobsU (askU 12 14) plan14 _ old new r m accepts14 pairs14 h .behind 4 (omega arith)) ∙ sym (getD-take 6 new 4 0 (omega arith))
     ∙ ap (λ (ys : List ℕ). getD ys 4 0) e)

@@ -1,1 +1,2 @@
 pub mod Bindings
+pub mod Steps

@@ -14,8 +14,9 @@ ghost use Rattle.rules.specs.Plans.{starts};
 ghost use Rattle.rules.specs.Supports.{supportByte};
 ghost use Rattle.rules.specs.Pairs.{binds, pairIf, pairBytes};
 ghost use Rattle.tables.specs.Tables.{problem, filled};
-ghost use Rattle.verdict.specs.Offered.{Given};
-ghost use Rattle.bindings.specs.Bindings.{Supports, Pairs, rowByte, FillsRow, FeedersOf, pairRow, Puts};
+ghost use Rattle.verdict.specs.Steps.{Given};
+ghost use Rattle.bindings.specs.Bindings.{Supports, Pairs};
+ghost use Rattle.bindings.specs.Steps.{rowByte, FillsRow, FeedersOf, pairRow, Puts};
 
 // For each job, the set of jobs that are named supports of its conditions.
 pub struct Feeders {
@@ -135,8 +136,9 @@ fn binds(l: Loaded, q: Ask, s: &[u16], f: Feeders, a: usize, b: usize) -> bool
     if s[b] == 65535 {
         return false;
     }
-    if named::over_by(s[a], l.durations[a], s[b] as u32) {
-        return verdict::interferes(l, a, b) || facts::has(f.of[b], a);
+    let first = l.jobs[a];
+    if named::over_by(s[a], first.duration, s[b] as u32) {
+        return interference::interferes(l, a, b) || facts::has(f.of[b], a);
     }
     false
 }

@@ -1,7 +1,7 @@
 -- Demand 3 of the answers: from the promises alone, over the pairs in the written bytes.
 -- Assumes nothing.
 use mathlib.Core.Path.{_≡_, refl, sym, ap, _∙_, subst}
-use mathlib.Core.Bool.{Bool, _||_}
+use mathlib.Core.Bool.{Bool, false, _||_}
 use mathlib.Core.List.{List, [], _∷_}
 use Prim.Native.Nat.{ℕ, _/_, _≤_, _<_}
 use native.Mathlib.Omega.{arith}
@@ -9,14 +9,12 @@ use borrow.Author.Tests.{le-ltb, eq-eqb}
 use lib.Dec.{T, ltb}
 use lib.ListN.{length, getD}
 use Rattle.facts.proofs.Bools.{or-l, or-r, at-most}
-use Rattle.rules.specs.Refusals.{Verdict, accepted}
-use Rattle.rules.specs.Table.{Problem, InOrder, tableChecks, boundCheck}
+use Rattle.rules.specs.Refusals.{accepted}
+use Rattle.rules.specs.Table.{Problem, tableChecks, boundCheck}
 use Rattle.rules.specs.Plans.{Plan, starts, Valid}
-use Rattle.rules.specs.Verdicts.{planChecks}
 use Rattle.rules.specs.Pairs.{binds, pairBytes}
 use Rattle.rules.specs.Execution.{began, finished, Log, Allowed}
-use Rattle.rules.proofs.Refused.{went-on, if-zero, table-checks, goes-on}
-use Rattle.rules.proofs.Checked.{passed, in-order}
+use Rattle.rules.proofs.Refused.{if-zero}
 use Rattle.rules.proofs.Orders.{wider}
 use Rattle.rules.proofs.Performed.{demand3}
 use Rattle.tables.specs.declared.Loaded.{Loaded}
@@ -24,9 +22,10 @@ use Rattle.tables.specs.declared.Ask.{Ask}
 use Rattle.tables.specs.declared.Answer.{Answer}
 use Rattle.tables.specs.Tables.{problem, filled}
 use Rattle.tables.proofs.Lent.{filled-at, length-filled}
-use Rattle.tables.proofs.Laws.{numbered, changed-new}
+use Rattle.tables.proofs.Laws.{accepts, numbered, changed-new}
 use Rattle.verdict.specs.Offered.{offered}
-use Rattle.verdict.proofs.Accepted.{offered-checks, exactly}
+use Rattle.verdict.specs.Steps.{Sound}
+use Rattle.verdict.proofs.Accepted.{offered-checks, sound, exactly}
 use Rattle.bindings.specs.Bindings.{Pairs, pairVerdict, written}
 use Rattle.bindings.proofs.Count.{pairs-room}
 use Rattle.planning.specs.Planning.{planningChecks, PlansWithin, BoundsWithin}
@@ -43,39 +42,15 @@ allowed P s bytes n k (began j ∷ h) (m, x) =
 allowed P s bytes n k (finished j ∷ h) (m, x) = (m, allowed P s bytes n k h x)
 
 module _ (l : Loaded) (q : Ask) (s old new : List ℕ) (r : Answer) (p : Pairs l q s old new r) where
-  abbrev short : Bool
-  short = ltb (length old) 552 || ltb (length s) (q .jobs)
-
   -- the pairs of an accepted plan, as they stand in the bytes, are all that the foreman has to keep
   pub offered-kept : r .number ≡ 0 → Foreman (problem l q) (q .bound) (starts s) new (r .value)
-  offered-kept z h al all = demand3 (problem l q) ok (q .bound) (starts s) valid h (allowed (problem l q) (starts s) new (r .value) here h al) all
+  offered-kept z h al all = demand3 (problem l q) (ok .clear .order) (q .bound) (starts s) (ok .valid) h (allowed (problem l q) (starts s) new (r .value) here h al) all
     where
       v : pairVerdict l q s old .number ≡ 0
       v = sym (numbered _ 0 (p .says)) ∙ z
 
-      whole : pairVerdict l q s old ≡ accepted
-      whole = went-on (offered short l q s) (offered-checks short l q s) v accepted
-
-      room : (T (short || ltb (l .lent) (q .jobs)) → ⊥) × (tableChecks (problem l q) (boundCheck (q .bound) (planChecks (problem l q) (q .bound) (starts s) accepted)) ≡ accepted)
-      room = if-zero (short || ltb (l .lent) (q .jobs)) 3 0 _ (omega arith) whole
-
-      wide : 552 ≤ length old
-      wide = at-most (length old) 552 (λ x. room .0 (or-l short _ (or-l (ltb (length old) 552) _ x)))
-
-      enough : q .jobs ≤ length s
-      enough = at-most (length s) (q .jobs) (λ x. room .0 (or-l short _ (or-r (ltb (length old) 552) _ x)))
-
-      ok : InOrder (problem l q)
-      ok = in-order (problem l q) (goes-on (tableChecks (problem l q)) (table-checks (problem l q)) _ (room .1) accepted)
-
-      plain : offered (ltb (length s) (q .jobs)) l q s accepted ≡ accepted
-      plain = ap (λ (b : Bool). offered (b || ltb (length s) (q .jobs)) l q s accepted) (sym (le-ltb (length old) 552 wide)) ∙ whole
-
-      valid : Valid (problem l q) (q .bound) (starts s)
-      valid = exactly l q s _ refl .0 (ap (λ (x : Verdict). x .number) plain) .3
-
-      few : q .jobs ≤ 24
-      few = passed (problem l q) (goes-on (tableChecks (problem l q)) (table-checks (problem l q)) _ (room .1) accepted) .count
+      ok : Sound (ltb (length old) 552) l q s
+      ok = sound (ltb (length old) 552) l q s (accepts (offered-checks (ltb (length old) 552) l q s) v)
 
       bytes : new ≡ written (pairBytes (problem l q) (starts s)) old
       bytes = p .list ∙ changed-new (pairVerdict l q s old) _ old v
@@ -87,41 +62,41 @@ module _ (l : Loaded) (q : Ask) (s old new : List ℕ) (r : Answer) (p : Pairs l
       here a b i j t =
           subst (λ (x : List ℕ). Listed x (r .value) a b) (sym bytes)
           (subst (λ (n : ℕ). Listed (written (pairBytes (problem l q) (starts s)) old) n a b) (sym value)
-          (listed (problem l q) (starts s) old a b (omega (arith, wide, pairs-room (problem l q) (starts s) ok few)) i j t))
+          (listed (problem l q) (starts s) old a b (omega (arith, at-most (length old) 552 (ok .room), pairs-room (problem l q) (starts s) (ok .clear .order) (ok .clear .few))) i j t))
 
 -- ── a plan that was found ──
 
-module _ (l : Loaded) (q : Ask) (xs ys : List ℕ) where
+module _ (l : Loaded) (q : Ask) (old new : List ℕ) where
   -- what is said of a plan in lent memory by a call for its binding pairs
   abbrev pub Kept : Type 0
-  Kept = (old new : List ℕ) (r : Answer) → 552 ≤ length old → Pairs l q ys old new r → (r .number ≡ 0) × Foreman (problem l q) (q .bound) (starts ys) new (r .value)
+  Kept = (bytes bytes′ : List ℕ) (r : Answer) → 552 ≤ length bytes → Pairs l q new bytes bytes′ r → (r .number ≡ 0) × Foreman (problem l q) (q .bound) (starts new) bytes′ (r .value)
 
-  module _ (s : Plan) (e : planningChecks l q (length xs) accepted ≡ accepted) (t : ys ≡ filled s (q .jobs) xs) (v : Valid (problem l q) (q .bound) s) where
-    clear : (T (ltb (length xs) (q .jobs) || ltb (l .lent) (q .jobs)) → ⊥) × (tableChecks (problem l q) (boundCheck (q .bound) accepted) ≡ accepted)
-    clear = if-zero (ltb (length xs) (q .jobs) || ltb (l .lent) (q .jobs)) 3 0 _ (omega arith) e
+  module _ (s : Plan) (e : planningChecks l q (length old) accepted ≡ accepted) (t : new ≡ filled s (q .jobs) old) (v : Valid (problem l q) (q .bound) s) where
+    clear : (T (ltb (length old) (q .jobs) || ltb (l .lent) (q .jobs)) → ⊥) × (tableChecks (problem l q) (boundCheck (q .bound) accepted) ≡ accepted)
+    clear = if-zero (ltb (length old) (q .jobs) || ltb (l .lent) (q .jobs)) 3 0 _ (omega arith) e
 
-    room : q .jobs ≤ length xs
-    room = at-most (length xs) (q .jobs) (λ x. clear .0 (or-l (ltb (length xs) (q .jobs)) _ x))
+    room : q .jobs ≤ length old
+    room = at-most (length old) (q .jobs) (λ x. clear .0 (or-l (ltb (length old) (q .jobs)) _ x))
 
     -- the plan is accepted as it stands
-    accepts : offered (ltb (length ys) (q .jobs)) l q ys accepted .number ≡ 0
-    accepts = exactly l q ys _ refl .1 (
-      omega (arith, room, ap length t, length-filled s (q .jobs) xs),
-      at-most (l .lent) (q .jobs) (λ x. clear .0 (or-r (ltb (length xs) (q .jobs)) _ x)),
+    taken : offered false l q new accepted .number ≡ 0
+    taken = exactly l q new _ refl .1 (
+      omega (arith, room, ap length t, length-filled s (q .jobs) old),
+      at-most (l .lent) (q .jobs) (λ x. clear .0 (or-r (ltb (length old) (q .jobs)) _ x)),
       clear .1,
-      valid-same (problem l q) s (starts ys) (λ i h. sym (ap (λ (x : List ℕ). getD x i 0) t ∙ filled-at s (q .jobs) xs i 0 h (omega (arith, room)))) (q .bound) v,
+      valid-same (problem l q) s (starts new) (λ i h. sym (ap (λ (x : List ℕ). getD x i 0) t ∙ filled-at s (q .jobs) old i 0 h (omega (arith, room)))) (q .bound) v,
     )
 
     kept : Kept
-    kept old new r w p = (zero, offered-kept l q ys old new r p zero)
+    kept bytes bytes′ r w p = (zero, offered-kept l q new bytes bytes′ r p zero)
       where
         zero : r .number ≡ 0
-        zero = numbered _ 0 (p .says) ∙ ap (λ (b : Bool). offered (b || ltb (length ys) (q .jobs)) l q ys accepted .number) (le-ltb (length old) 552 w) ∙ accepts
+        zero = numbered _ 0 (p .says) ∙ ap (λ (b : Bool). offered b l q new accepted .number) (le-ltb (length bytes) 552 w) ∙ taken
 
   -- the foreman may run the plan that planning within the bound gave
-  pub plan-kept : (a : Answer) → PlansWithin l q xs a ys → a .number ≡ 0 → Kept
-  plan-kept a p z = let f = plan-found l q xs a ys p z in kept (f .s) (f .checks) (f .table) (f .ok .ok)
+  pub plan-kept : (a : Answer) → PlansWithin l q old new a → a .number ≡ 0 → Kept
+  plan-kept a p z = let f = plan-found l q old new a p z in kept (f .s) (f .checks) (f .table) (f .ok .ok)
 
   -- and the plan that came with the least bound
-  pub bound-kept : (a : Answer) → BoundsWithin l q xs a ys → a .number ≡ 0 → Kept
-  bound-kept a p z = let f = bound-found l q xs a ys p z in kept (f .s) (f .checks) (f .table) (wider (problem l q) (a .value) (q .bound) (f .s) (f .ok .within) (f .ok .first .ok))
+  pub bound-kept : (a : Answer) → BoundsWithin l q old new a → a .number ≡ 0 → Kept
+  bound-kept a p z = let f = bound-found l q old new a p z in kept (f .s) (f .checks) (f .table) (wider (problem l q) (a .value) (q .bound) (f .s) (f .ok .within) (f .ok .first .ok))

@@ -79,39 +79,39 @@ untouched-fails = refl
 
 -- ── the promise at P1 ──
 
-passes1 : callChecks false jobsU (askU 12 12) (boundCheck 12 accepted) ≡ accepted
+passes1 : callChecks false 12 jobsU (askU 12 12) accepted ≡ accepted
 unfolding boundCheck tableChecks jobChecks between strays jobStrays undoes refuseAt refuseIf has any least further
 passes1 = refl
 
-module _ (xs ys : List ℕ) (r : Answer) (room : 4 ≤ length xs) (p : PlansWithin jobsU (askU 12 12) xs r ys) where
+module _ (old new : List ℕ) (r : Answer) (room : 4 ≤ length old) (p : PlansWithin jobsU (askU 12 12) old new r) where
   -- always 10
   pub always-10 : r .number ≡ 10 → ⊥
-  always-10 z = plan-none jobsU (askU 12 12) xs r ys
-      (ap (λ (b : Bool). callChecks b jobsU (askU 12 12) (boundCheck 12 accepted)) (le-ltb (length xs) 4 room) ∙ passes1) p z _ valid1
+  always-10 z = plan-none jobsU (askU 12 12) old new r
+      (ap (λ (b : Bool). callChecks b 12 jobsU (askU 12 12) accepted) (le-ltb (length old) 4 room) ∙ passes1) p z _ valid1
 
   -- what is given is valid
-  given : (zs : List ℕ) → r .number ≡ 0 → ((i : ℕ) → i < 4 → getD ys i 0 ≡ getD zs i 0) → Valid P1 12 (starts zs)
+  given : (zs : List ℕ) → r .number ≡ 0 → ((i : ℕ) → i < 4 → getD new i 0 ≡ getD zs i 0) → Valid P1 12 (starts zs)
   given zs z e =
-      let f = plan-found jobsU (askU 12 12) xs r ys p z in
+      let f = plan-found jobsU (askU 12 12) old new r p z in
       valid-same P1 (f .s) (starts zs)
-      (λ i h. sym (filled-at (f .s) 4 xs i 0 h (omega arith)) ∙ sym (ap (λ (l : List ℕ). getD l i 0) (f .table)) ∙ e i h) 12 (f .ok .ok)
+      (λ i h. sym (filled-at (f .s) 4 old i 0 h (omega arith)) ∙ sym (ap (λ (l : List ℕ). getD l i 0) (f .table)) ∙ e i h) 12 (f .ok .ok)
 
   -- so a plan that the checks refuse is not given
-  not-given : (zs : List ℕ) (n k : ℕ) → 0 < n → planChecks P1 12 (starts zs) accepted ≡ refused n k → r .number ≡ 0 → ((i : ℕ) → i < 4 → getD ys i 0 ≡ getD zs i 0) → ⊥
+  not-given : (zs : List ℕ) (n k : ℕ) → 0 < n → planChecks P1 12 (starts zs) accepted ≡ refused n k → r .number ≡ 0 → ((i : ℕ) → i < 4 → getD new i 0 ≡ getD zs i 0) → ⊥
   not-given zs n k l h z e =
       let o : n ≡ 0 = ap (λ (v : Verdict). v .number) (sym h ∙ judged P1 order1 12 (starts zs) (λ i m. omega arith) .1 (given zs z e)) in
       omega arith
 
   -- always the empty plan
-  pub always-empty : r .number ≡ 0 → ((i : ℕ) → i < 4 → getD ys i 0 ≡ getD empty i 0) → ⊥
+  pub always-empty : r .number ≡ 0 → ((i : ℕ) → i < 4 → getD new i 0 ≡ getD empty i 0) → ⊥
   always-empty = not-given empty 14 2 (omega arith) empty-fails
 
   -- returns and writes nothing
-  pub writes-nothing : r .number ≡ 0 → ys ≡ xs → ((i : ℕ) → i < 4 → getD xs i 0 ≡ getD untouched i 0) → ⊥
+  pub writes-nothing : r .number ≡ 0 → new ≡ old → ((i : ℕ) → i < 4 → getD old i 0 ≡ getD untouched i 0) → ⊥
   writes-nothing z e h = not-given untouched 12 1 (omega arith) untouched-fails z (λ i l. ap (λ (x : List ℕ). getD x i 0) e ∙ h i l)
 
 -- ── the promise at P3 ──
 
 -- a bound over 12 named as the least, those below it only said to have been tried
-pub only-claimed : (xs ys : List ℕ) (r : Answer) → BoundsWithin jobsU (askU 28 14) xs r ys → r .number ≡ 0 → 12 < r .value → ⊥
-only-claimed xs ys r p z l = bound-found jobsU (askU 28 14) xs r ys p z .ok .none 12 (starts plan3) l valid3
+pub only-claimed : (old new : List ℕ) (r : Answer) → BoundsWithin jobsU (askU 28 14) old new r → r .number ≡ 0 → 12 < r .value → ⊥
+only-claimed old new r p z l = bound-found jobsU (askU 28 14) old new r p z .ok .none 12 (starts plan3) l valid3

@@ -31,7 +31,8 @@ pub fn row(l: Loaded, q: Ask, a: usize) -> [u16; 25]
     requires { ⌜ (q .jobs ≤ 24) × (a < 24) ⌝ }
     ensures { λ r. ⌜ (InOrder (problem l q) → Apart (problem l q) a (entry r)) ⌝ }
 {
-    let spared = lacks(l.deletions[a]);
+    let job = l.jobs[a];
+    let spared = lacks(job.deletions);
     let since = Ask {
         jobs: q.jobs,
         atoms: q.atoms,
@@ -43,5 +44,5 @@ pub fn row(l: Loaded, q: Ask, a: usize) -> [u16; 25]
     };
     let est = estimates::estimate_all(l, since);
     let end = estimates::dearest(l, since, est, q.goals);
-    behind(l.durations[a], est, end)
+    behind(job.duration, est, end)
 }

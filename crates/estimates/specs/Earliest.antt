@@ -6,21 +6,16 @@ use Prim.Native.Nat.{ℕ}
 use lib.Dec.{ltb}
 use lib.ListN.{length}
 use Rattle.rules.specs.Refusals.{Verdict, accepted}
-use Rattle.rules.specs.Table.{InOrder}
 use Rattle.rules.specs.Estimates.{Estimates}
-use Rattle.tables.specs.Tables.{problem, answer, filled, changed, callChecks}
+use Rattle.tables.specs.Tables.{problem, callChecks, Fills}
 use Rattle.tables.specs.declared.Loaded.{Loaded}
 use Rattle.tables.specs.declared.Ask.{Ask}
 use Rattle.tables.specs.declared.Answer.{Answer}
 
--- checks 3 to 8: the lent memory xs has a place a job
-abbrev pub verdict : Loaded → Ask → List ℕ → Verdict
-verdict l q xs = callChecks (ltb (length xs) (q .jobs)) l q accepted
+-- checks 3 to 8, where `room` numbers are lent: one a job
+abbrev pub earliestChecks : Loaded → Ask → (room : ℕ) → Verdict → Verdict
+earliestChecks l q room next = callChecks (ltb room (q .jobs)) 0 l q next
 
--- the answer r says the verdict; where it accepts, ys is xs filled with the solution, else ys is xs
-pub record Earliest (l : Loaded) (q : Ask) (xs : List ℕ) (r : Answer) (ys : List ℕ) : Type 0 where
-  pub est : ℕ → ℕ
-  pub says : r ≡ answer (verdict l q xs) 0 0
-  pub order : verdict l q xs ≡ accepted → InOrder (problem l q)
-  pub solves : verdict l q xs ≡ accepted → Estimates (problem l q) est
-  pub leaves : ys ≡ changed (verdict l q xs) (filled est (q .jobs) xs) xs
+-- behind the checks the lent memory is filled with the solution
+abbrev pub Earliest : Loaded → Ask → (old new : List ℕ) → Answer → Type 0
+Earliest l q old new r = Fills (earliestChecks l q (length old)) (λ v value est. (v ≡ accepted) × (value ≡ 0) × Estimates (problem l q) est) 0 (q .jobs) old new r

@@ -54,7 +54,8 @@ fn cost(l: Loaded, q: Ask, est: [u16; 24], p: usize) -> u16
     let n = q.jobs;
     let mut best: u16 = 65535;
     for k in 0..n {
-        let by = cost_by(l.additions[k], p, est[k], l.durations[k]);
+        let a = l.jobs[k];
+        let by = cost_by(a.additions, p, est[k], a.duration);
         best = lower(by, best);
     }
     best
@@ -112,7 +113,8 @@ fn round(l: Loaded, q: Ask, est: [u16; 24]) -> [u16; 24]
     let n = q.jobs;
     let mut next = est;
     for i in 0..n {
-        next[i] = greatest(l.conditions[i], costs);
+        let a = l.jobs[i];
+        next[i] = greatest(a.conditions, costs);
     }
     next
 }
@@ -135,9 +137,9 @@ pub fn estimate_all(l: Loaded, q: Ask) -> [u16; 24]
 
 // The earliest estimates, one a job, into lent memory.
 pub fn earliest(l: Loaded, q: Ask, out: &mut [u16]) -> Answer
-    ensures { λ r. ⌜ Earliest l q (now (out .entry)) r (now (out .exit)) ⌝ }
+    ensures { λ r. ⌜ Earliest l q (now (out .entry)) (now (out .exit)) r ⌝ }
 {
-    let fault = tables::call_fault(l, q, out.len() < q.jobs);
+    let fault = tables::call_fault(l, q, out.len() < q.jobs, 0);
     if fault.number != 0 {
         return fault;
     }

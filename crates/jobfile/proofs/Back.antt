@@ -5,28 +5,31 @@ use mathlib.Core.Logic.{_⊎_, inl, inr, ⊎-elim}
 use mathlib.Core.Bool.{false, not, _||_}
 use mathlib.Core.List.{List}
 use Prim.Native.Nat.{ℕ, zero, suc, _+_, _-_, _*_, _≤_, _<_, min}
+use native.Mathlib.Nat.{add-zero}
 use native.Mathlib.Omega.{arith}
 use lib.Dec.{T, eqb, ltb, ltb→lt}
-use lib.ListN.{length, getD, take, replicate}
+use lib.ListN.{length, take, replicate}
 use lib.Seq.{length-take-le}
 use Rattle.facts.specs.Least.{any}
-use Rattle.facts.proofs.Bools.{or-l, or-cases, below-suc, at-most}
+use Rattle.facts.proofs.Bools.{or-cases, below-suc, at-most}
 use Rattle.facts.proofs.Least.{any-at}
 use Rattle.rules.specs.Refusals.{Verdict, accepted}
 use Rattle.rules.specs.Table.{tableChecks, boundCheck}
-use Rattle.rules.proofs.Refused.{if-zero, if-pass, table-checks, both}
-use Rattle.rules.proofs.Checked.{Passed, passed, passed-conditions, passed-additions, passed-deletions, passed-opening, passed-goals}
+use Rattle.rules.proofs.Refused.{if-zero, if-pass}
+use Rattle.rules.proofs.Checked.{Passed, passed-conditions, passed-additions, passed-deletions, passed-opening, passed-goals}
+use Rattle.tables.specs.declared.Action.{Action}
 use Rattle.tables.specs.declared.Loaded.{Loaded}
 use Rattle.tables.specs.declared.Ask.{Ask}
 use Rattle.tables.specs.declared.Answer.{Answer}
-use Rattle.tables.specs.Tables.{problem, answer, changed}
+use Rattle.tables.specs.Tables.{noJob, jobAt, problem, answer, changed, callChecks}
+use Rattle.tables.proofs.Calls.{call-passed, cleared}
 use Rattle.tables.proofs.Lent.{filled-at, filled-same}
-use Rattle.bytes_le.specs.Little.{laid}
+use Rattle.bytes_le.specs.Little.{number, laid}
 use Rattle.bytes_le.proofs.Stands.{Stands, stands-left, stands-right, stands-drop, stands-take, stands-laid}
 use Rattle.bytes_le.proofs.Laid.{length-laid}
 use Rattle.bytes_le.proofs.Fields.{Found, fields-found}
-use Rattle.jobfile.specs.Format.{recordFields, recordOf, recordsOf, trailerFields, trailerOf, saveOf, lengthAfter, trailerAt, trailerIn, askIn, distanceIn, tooFar, recordsIn, spoilt, field, firstOf, tableIn}
-use Rattle.jobfile.specs.Calls.{problemChecks, saveChecks, readChecks, whole, taken, reading, writeChecks, Writes, saved, firsts, kept}
+use Rattle.jobfile.specs.Format.{recordFields, recordOf, recordsOf, trailerFields, trailerOf, saveOf, lengthAfter, trailerAt, trailerIn, askIn, distanceIn, tooFar, recordsIn, spoilt, actionIn, firstOf, tableIn}
+use Rattle.jobfile.specs.Calls.{saveChecks, readChecks, whole, taken, reading, writeChecks, Writes, saved, kept}
 use Rattle.jobfile.proofs.Checks.{any-test, write-accepts}
 use Rattle.jobfile.proofs.Saves.{length-records, length-save}
 use Rattle.jobfile.proofs.Same.{checks-same}
@@ -36,16 +39,22 @@ use Rattle.jobfile.proofs.Same.{checks-same}
 record Accepted (l : Loaded) (q : Ask) (used size : ℕ) : Type 0 where
   short : lengthAfter used (q .jobs) ≤ 65536
   room : lengthAfter used (q .jobs) ≤ size
-  table : tableChecks (problem l q) accepted ≡ accepted
-  bound : boundCheck (q .bound) accepted ≡ accepted
+  table : tableChecks (problem l q) (boundCheck (q .bound) accepted) ≡ accepted
+  passed : Passed (problem l q)
+  bound : q .bound ≤ 2880
 
 accepted-write : (l : Loaded) (q : Ask) (used size : ℕ) → writeChecks l q used size ≡ accepted → Accepted l q used size
 unfolding writeChecks
 accepted-write l q used size h =
     let a = if-zero (ltb 65536 n) 1 0 _ (omega arith) h in
-    let b = if-zero (ltb size n || ltb (l .lent) (q .jobs)) 3 0 _ (omega arith) (a .1) in
-    let c = both (boundCheck (q .bound) accepted) (table-checks (problem l q)) (b .1) in
-    record { short = at-most 65536 n (a .0); room = at-most size n (λ x. b .0 (or-l (ltb size n) _ x)); table = c .0; bound = c .1 }
+    let c = cleared (ltb size n) (q .bound) l q (a .1) in
+    record {
+      short = at-most 65536 n (a .0);
+      room = at-most size n (c .room);
+      table = if-zero (ltb size n || ltb (l .lent) (q .jobs)) 3 0 _ (omega arith) (a .1) .1;
+      passed = call-passed (ltb size n) (q .bound) l q (a .1);
+      bound = c .within;
+    }
   where
     n : ℕ
     n = lengthAfter used (q .jobs)
@@ -61,23 +70,25 @@ module _ (l : Loaded) (q : Ask) (p : Passed (problem l q)) (bound : q .bound ≤
       (cc (f .0, f .1 .0, f .1 .1 .0, f .1 .1 .1 .0, f .1 .1 .1 .1 .0), f .1 .1 .1 .1 .1 .0)
 
   module _ (rs : List ℕ) (s : Stands (recordsOf l (q .jobs)) 0 rs) where
-    each : (n : ℕ) → Stands (recordsOf l n) 0 rs → (i : ℕ) → i < n → Stands (recordOf l i) (32 * i + 0) rs
+    each : (n : ℕ) → Stands (recordsOf l n) 0 rs → (i : ℕ) → i < n → Stands (recordOf (jobAt l i)) (32 * i + 0) rs
     unfolding recordsOf
     each zero h i m = absurd (omega arith)
-    each (suc k) h i m = go (below-suc i k m) (each k (stands-left (recordsOf l k) (recordOf l k) 0 rs h) i)
+    each (suc k) h i m = go (below-suc i k m) (each k (stands-left (recordsOf l k) (recordOf (jobAt l k)) 0 rs h) i)
       where
-        go : (i < k) ⊎ (i ≡ k) → (i < k → Stands (recordOf l i) (32 * i + 0) rs) → Stands (recordOf l i) (32 * i + 0) rs
+        go : (i < k) ⊎ (i ≡ k) → (i < k → Stands (recordOf (jobAt l i)) (32 * i + 0) rs) → Stands (recordOf (jobAt l i)) (32 * i + 0) rs
         go (inl x) f = f x
-        go (inr e) f = subst (λ (j : ℕ). Stands (recordOf l j) (32 * j + 0) rs) (sym e) (subst (λ (n : ℕ). Stands (recordOf l k) n rs) at (stands-right (recordsOf l k) (recordOf l k) 0 rs h))
+        go (inr e) f = subst (λ (j : ℕ). Stands (recordOf (jobAt l j)) (32 * j + 0) rs) (sym e) (subst (λ (n : ℕ). Stands (recordOf (jobAt l k)) n rs) at (stands-right (recordsOf l k) (recordOf (jobAt l k)) 0 rs h))
           where
             at : 0 + length (recordsOf l k) ≡ 32 * k + 0
             at = omega (arith, length-records l k)
 
-    found : (i : ℕ) → i < q .jobs
-        → Found (recordFields (getD (l .conditions) i 0) (getD (l .additions) i 0) (getD (l .deletions) i 0) (getD (l .durations) i 0)) (32 * i) 0 rs
+    found : (i : ℕ) → i < q .jobs → Found (recordFields (jobAt l i)) (32 * i) 0 rs
     found i m =
         let d = p .durations i m .1 in
         fields-found _ (32 * i) 0 rs (passed-conditions (problem l q) p i m, (passed-additions (problem l q) p i m, (passed-deletions (problem l q) p i m, (omega arith, (omega arith, tt))))) (each (q .jobs) s i m)
+
+    action-is : (i : ℕ) → i < q .jobs → actionIn rs i ≡ jobAt l i
+    action-is i m = let f = found i m in let first = ap (number 8 rs) (sym (add-zero (32 * i))) ∙ f .0 in λ j. record { conditions = first j; additions = f .1 .0 j; deletions = f .1 .1 .0 j; duration = f .1 .1 .1 .0 j }
 
     clean : T (any (spoilt rs) (q .jobs)) → ⊥
     unfolding spoilt
@@ -88,48 +99,27 @@ module _ (l : Loaded) (q : Ask) (p : Passed (problem l q)) (bound : q .bound ≤
     table-is : (room : ℕ) → tableIn rs (q .jobs) room ≡ kept l (q .jobs) room
     table-is room =
         let m : min (q .jobs) 24 ≡ q .jobs = omega (arith, p .count) in
-        ap (λ (n : ℕ). firstOf rs n room) m
-        ∙ cc (
-          filled-same (field 8 rs 0) (λ i. getD (l .conditions) i 0) (q .jobs) (replicate 24 0) (λ i h. found i h .0),
-          filled-same (field 8 rs 8) (λ i. getD (l .additions) i 0) (q .jobs) (replicate 24 0) (λ i h. found i h .1 .0),
-          filled-same (field 8 rs 16) (λ i. getD (l .deletions) i 0) (q .jobs) (replicate 24 0) (λ i h. found i h .1 .1 .0),
-          filled-same (field 2 rs 24) (λ i. getD (l .durations) i 0) (q .jobs) (replicate 24 0) (λ i h. found i h .1 .1 .1 .0),
-        )
+        ap (λ (n : ℕ). firstOf rs n room) m ∙ ap (λ (ts : List Action). record { jobs = ts; lent = room }) (filled-same (actionIn rs) (jobAt l) (q .jobs) (replicate 24 noJob) action-is)
 
   -- the table that comes back is judged as the one that was saved
-  kept-accepted : (room : ℕ) → q .jobs ≤ room → tableChecks (problem l q) accepted ≡ accepted → boundCheck (q .bound) accepted ≡ accepted
-      → problemChecks false (kept l (q .jobs) room) (saved q) ≡ accepted
-  kept-accepted room lent t b =
+  kept-accepted : (room : ℕ) → q .jobs ≤ room → tableChecks (problem l q) (boundCheck (q .bound) accepted) ≡ accepted → callChecks false (q .bound) (kept l (q .jobs) room) (saved q) accepted ≡ accepted
+  kept-accepted room lent t =
       if-pass _ 3 0 _ (λ h. omega (arith, ltb→lt room (q .jobs) h))
-      ∙ ap (tableChecks (problem (kept l (q .jobs) room) (saved q))) b
-      ∙ checks-same (q .jobs) (q .atoms) (q .opening) (q .goals) _ _ _ _ _ _ _ _ accepted (record { conditions = at (l .conditions); additions = at (l .additions); deletions = at (l .deletions); durations = at (l .durations) })
+      ∙ checks-same (kept l (q .jobs) room) l (saved q) (boundCheck (q .bound) accepted) (λ i h. filled-at (jobAt l) (q .jobs) (replicate 24 noJob) i noJob h (omega (arith, p .count)))
       ∙ t
-    where
-      within : (i : ℕ) → i < q .jobs → i < 24
-      within i h = omega (arith, p .count)
-
-      at : (xs : List ℕ) (i : ℕ) → i < q .jobs → getD (firsts xs (q .jobs)) i 0 ≡ getD xs i 0
-      at xs i h = filled-at (λ j. getD xs j 0) (q .jobs) (replicate 24 0) i 0 h (within i h)
 
 -- ── there and back ──
 
 -- a file that ends in a save, from place `base` on
 module _ (l : Loaded) (q : Ask) (base size : ℕ) (a : Accepted l q base size) (file : List ℕ) (long : length file ≡ lengthAfter base (q .jobs))
     (s : Stands (saveOf l q) base file) where
-  p : Passed (problem l q)
-  p = passed (problem l q) (a .table)
-
-  bounded : q .bound ≤ 2880
-  unfolding boundCheck
-  bounded = at-most 2880 (q .bound) (if-zero (ltb 2880 (q .bound)) 9 0 _ (omega arith) (a .bound) .0)
-
   trailer-at : trailerAt file ≡ base + 32 * q .jobs
   trailer-at = omega (arith, long)
 
   trailer-is : (askIn (trailerIn file) ≡ saved q) × (distanceIn (trailerIn file) ≡ 32 * q .jobs)
   unfolding saveOf
   trailer-is =
-      trailer-read l q p bounded (trailerIn file)
+      trailer-read l q (a .passed) (a .bound) (trailerIn file)
       (stands-drop (trailerOf q) (trailerAt file) 0 file
       (subst (λ (n : ℕ). Stands (trailerOf q) n file) at (stands-right (recordsOf l (q .jobs)) (trailerOf q) base file s)))
     where
@@ -158,10 +148,10 @@ module _ (l : Loaded) (q : Ask) (base size : ℕ) (a : Accepted l q base size) (
 
   module _ (room : ℕ) (lent : q .jobs ≤ room) where
     table-same : tableIn (recordsIn file) (askIn (trailerIn file) .jobs) room ≡ kept l (q .jobs) room
-    table-same = ap (λ (x : Ask). tableIn (recordsIn file) (x .jobs) room) (trailer-is .0) ∙ table-is l q p bounded (recordsIn file) records-are room
+    table-same = ap (λ (x : Ask). tableIn (recordsIn file) (x .jobs) room) (trailer-is .0) ∙ table-is l q (a .passed) (a .bound) (recordsIn file) records-are room
 
-    judged : problemChecks false (tableIn (recordsIn file) (askIn (trailerIn file) .jobs) room) (askIn (trailerIn file)) ≡ accepted
-    judged = ap₂ (problemChecks false) table-same (trailer-is .0) ∙ kept-accepted l q p bounded room lent (a .table) (a .bound)
+    judged : callChecks false (askIn (trailerIn file) .bound) (tableIn (recordsIn file) (askIn (trailerIn file) .jobs) room) (askIn (trailerIn file)) accepted ≡ accepted
+    judged = ap₂ (λ (t : Loaded) (x : Ask). callChecks false (x .bound) t x accepted) table-same (trailer-is .0) ∙ kept-accepted l q (a .passed) (a .bound) room lent (a .table)
 
     reads : readChecks file room ≡ accepted
     unfolding readChecks saveChecks
@@ -169,7 +159,7 @@ module _ (l : Loaded) (q : Ask) (base size : ℕ) (a : Accepted l q base size) (
         if-pass _ 1 0 _ (λ h. omega (arith, ltb→lt 65536 (length file) h, long, a .short))
         ∙ if-pass _ 2 0 _ (λ h. omega (arith, ltb→lt (length file) 24 h, long))
         ∙ if-pass _ 2 0 _ near
-        ∙ if-pass _ 2 0 _ (λ h. clean l q p bounded (recordsIn file) records-are (subst (λ (x : Ask). T (any (spoilt (recordsIn file)) (x .jobs))) (trailer-is .0) h))
+        ∙ if-pass _ 2 0 _ (λ h. clean l q (a .passed) (a .bound) (recordsIn file) records-are (subst (λ (x : Ask). T (any (spoilt (recordsIn file)) (x .jobs))) (trailer-is .0) h))
         ∙ judged
 
     reading-is : reading file room ≡ whole (answer accepted 0 0) (saved q) (kept l (q .jobs) room)

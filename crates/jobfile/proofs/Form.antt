@@ -4,26 +4,29 @@ use mathlib.Core.Path.{_≡_, refl, sym, ap, ap₂, _∙_, subst}
 use mathlib.Core.Bool.{false}
 use mathlib.Core.List.{List, _++_}
 use Prim.Native.Nat.{ℕ, zero, suc, _+_, _-_, _*_, _≤_, _<_, min}
+use native.Mathlib.Nat.{add-zero}
 use native.Mathlib.Omega.{arith}
 use lib.Dec.{T, eqb, eqb→eq, ltb}
-use lib.ListN.{length, getD, take, drop, replicate, length-drop, take-append-drop}
+use lib.ListN.{length, take, drop, replicate, length-drop, take-append-drop}
 use lib.Seq.{length-take-le, drop-drop}
 use Rattle.facts.specs.Least.{any}
 use Rattle.facts.proofs.Bools.{certain, or-l, or-r, at-most}
 use Rattle.facts.proofs.Least.{any-of}
 use Rattle.rules.specs.Refusals.{Verdict, accepted}
 use Rattle.rules.proofs.Refused.{if-zero}
+use Rattle.tables.specs.declared.Action.{Action}
 use Rattle.tables.specs.declared.Loaded.{Loaded}
 use Rattle.tables.specs.declared.Ask.{Ask}
-use Rattle.tables.specs.Tables.{column}
+use Rattle.tables.specs.Tables.{noJob, jobAt}
+use Rattle.tables.proofs.Calls.{cleared}
 use Rattle.tables.proofs.Lent.{filled-at}
 use Rattle.bytes_le.specs.Little.{number, Bytes}
 use Rattle.bytes_le.proofs.Stands.{Stands, stands-both, stands-all, bytes-take, bytes-drop}
 use Rattle.bytes_le.proofs.Fields.{found-fields}
 use Rattle.jobfile.specs.declared.Read.{Read}
-use Rattle.jobfile.specs.Format.{recordFields, recordOf, recordsOf, trailerFields, trailerOf, saveOf, trailerAt, trailerIn, askIn, distanceIn, tooFar, recordsIn, spoilt, field, tableIn}
+use Rattle.jobfile.specs.Format.{recordFields, recordOf, recordsOf, trailerFields, trailerOf, saveOf, trailerAt, trailerIn, askIn, distanceIn, tooFar, recordsIn, spoilt, actionIn, tableIn}
 use Rattle.jobfile.specs.Calls.{readChecks, saveChecks, taken, reading}
-use Rattle.jobfile.proofs.Checks.{any-test, problem-count}
+use Rattle.jobfile.proofs.Checks.{any-test}
 use Rattle.jobfile.proofs.Saves.{length-records, length-trailer}
 
 -- what a file that is read holds, by name
@@ -53,7 +56,7 @@ fine file room h =
       far = at-most d (32 * n) (λ x. c .0 (or-l (ltb d (32 * n)) _ x));
       near = at-most (trailerAt file) d (λ x. c .0 (or-r (ltb d (32 * n)) _ x));
       clean = e .0;
-      count = problem-count false (tableOf file room) (askOf file) (e .1);
+      count = cleared false (askOf file .bound) (tableOf file room) (askOf file) (e .1) .few;
     }
   where
     d : ℕ
@@ -69,23 +72,17 @@ module _ (file : List ℕ) (room : ℕ) (bytes : Bytes file) (f : Fine file) (ex
       (found-fields (trailerFields (askOf file)) 0 0 (trailerIn file) (bytes-drop (trailerAt file) file bytes) (refl, (refl, (refl, (refl, (refl, (exact, tt)))))))
 
   -- one record
-  record-form : (i : ℕ) → i < askOf file .jobs → Stands (recordOf (tableOf file room) i) (32 * i + 0) (recordsIn file)
+  record-form : (i : ℕ) → i < askOf file .jobs → Stands (recordOf (jobAt (tableOf file room) i)) (32 * i + 0) (recordsIn file)
   unfolding spoilt
   record-form i l =
-      found-fields (recordFields (at 8 0) (at 8 8) (at 8 16) (at 2 24)) (32 * i) 0 (recordsIn file) (bytes-take (32 * askOf file .jobs) (drop first file) (bytes-drop first file bytes))
-      (held 8 0, (held 8 8, (held 8 16, (held 2 24, (zeros, tt)))))
+      found-fields (recordFields (jobAt (tableOf file room) i)) (32 * i) 0 (recordsIn file) (bytes-take (32 * askOf file .jobs) (drop first file) (bytes-drop first file bytes))
+      (ap (number 8 (recordsIn file)) (add-zero (32 * i)) ∙ ap (λ (a : Action). a .conditions) held, (ap (λ (a : Action). a .additions) held, (ap (λ (a : Action). a .deletions) held, (ap (λ (a : Action). a .duration) held, (zeros, tt)))))
     where
       first : ℕ
       first = trailerAt file - distanceIn (trailerIn file)
 
-      at : (size off : ℕ) → ℕ
-      at size off = getD (column (field size (recordsIn file) off) (min (askOf file .jobs) 24)) i 0
-
-      within : i < 24
-      within = omega (arith, f .count)
-
-      held : (size off : ℕ) → field size (recordsIn file) off i ≡ getD (column (field size (recordsIn file) off) (min (askOf file .jobs) 24)) i 0
-      held size off = sym (filled-at (field size (recordsIn file) off) (min (askOf file .jobs) 24) (replicate 24 0) i 0 (omega (arith, f .count)) within)
+      held : actionIn (recordsIn file) i ≡ jobAt (tableOf file room) i
+      held = sym (filled-at (actionIn (recordsIn file)) (min (askOf file .jobs) 24) (replicate 24 noJob) i noJob (omega (arith, f .count)) (omega (arith, f .count)))
 
       zeros : number 6 (recordsIn file) (32 * i + 26) ≡ 0
       zeros =
@@ -96,8 +93,8 @@ module _ (file : List ℕ) (room : ℕ) (bytes : Bytes file) (f : Fine file) (ex
   unfolding recordsOf
   first-form zero m = λ i l. absurd (omega arith)
   first-form (suc k) m =
-      stands-both (recordsOf (tableOf file room) k) (recordOf (tableOf file room) k) 0 (recordsIn file) (first-form k (omega arith))
-      (subst (λ (n : ℕ). Stands (recordOf (tableOf file room) k) n (recordsIn file)) at (record-form k (omega arith)))
+      stands-both (recordsOf (tableOf file room) k) (recordOf (jobAt (tableOf file room) k)) 0 (recordsIn file) (first-form k (omega arith))
+      (subst (λ (n : ℕ). Stands (recordOf (jobAt (tableOf file room) k)) n (recordsIn file)) at (record-form k (omega arith)))
     where
       at : 32 * k + 0 ≡ 0 + length (recordsOf (tableOf file room) k)
       at = omega (arith, length-records (tableOf file room) k)

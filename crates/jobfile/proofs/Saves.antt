@@ -3,19 +3,21 @@
 use mathlib.Core.Path.{_≡_, refl}
 use Prim.Native.Nat.{ℕ, zero, suc, _+_, _*_}
 use native.Mathlib.Omega.{arith}
-use lib.ListN.{length, getD, length-append}
+use lib.ListN.{length, length-append}
+use Rattle.tables.specs.declared.Action.{Action}
 use Rattle.tables.specs.declared.Loaded.{Loaded}
 use Rattle.tables.specs.declared.Ask.{Ask}
+use Rattle.tables.specs.Tables.{jobAt}
 use Rattle.bytes_le.proofs.Fields.{length-fields}
 use Rattle.jobfile.specs.Format.{recordFields, recordOf, recordsOf, trailerFields, trailerOf, saveOf}
 
-pub length-record : (l : Loaded) (i : ℕ) → length (recordOf l i) ≡ 32
-length-record l i = length-fields (recordFields (getD (l .conditions) i 0) (getD (l .additions) i 0) (getD (l .deletions) i 0) (getD (l .durations) i 0))
+pub length-record : (a : Action) → length (recordOf a) ≡ 32
+length-record a = length-fields (recordFields a)
 
 pub length-records : (l : Loaded) (n : ℕ) → length (recordsOf l n) ≡ 32 * n
 unfolding recordsOf
 length-records l zero = refl
-length-records l (suc k) = omega (arith, length-append (recordsOf l k) (recordOf l k), length-records l k, length-record l k)
+length-records l (suc k) = omega (arith, length-append (recordsOf l k) (recordOf (jobAt l k)), length-records l k, length-record (jobAt l k))
 
 pub length-trailer : (q : Ask) → length (trailerOf q) ≡ 24
 length-trailer q = length-fields (trailerFields q)

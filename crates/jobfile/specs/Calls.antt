@@ -1,31 +1,26 @@
 -- What the reader and the writer promise.
 -- Assumes nothing.
 use mathlib.Core.Path.{_≡_}
-use mathlib.Core.Bool.{Bool, false, cond}
+use mathlib.Core.Bool.{false, cond}
 use mathlib.Core.List.{List}
 use Prim.Native.Nat.{ℕ}
 use lib.Dec.{eqb, ltb}
-use lib.ListN.{length, getD}
+use lib.ListN.{length}
 use Rattle.facts.specs.Least.{any}
 use Rattle.rules.specs.Refusals.{Verdict, accepted, refuseIf}
-use Rattle.rules.specs.Table.{boundCheck}
 use Rattle.tables.specs.declared.Loaded.{Loaded}
 use Rattle.tables.specs.declared.Ask.{Ask}
 use Rattle.tables.specs.declared.Answer.{Answer}
-use Rattle.tables.specs.Tables.{answer, changed, callChecks, column, noJobs}
+use Rattle.tables.specs.Tables.{answer, changed, callChecks, jobAt, tabled, noJobs}
 use Rattle.bytes_le.specs.Little.{laid}
 use Rattle.jobfile.specs.declared.Read.{Read}
 use Rattle.jobfile.specs.Format.{saveOf, lengthAfter, trailerAt, trailerIn, askIn, distanceIn, tooFar, recordsIn, spoilt, tableIn}
-
--- checks 3 to 9
-abbrev pub problemChecks : (short : Bool) → Loaded → Ask → Verdict
-problemChecks short l q = callChecks short l q (boundCheck (q .bound) accepted)
 
 -- ── reading ──
 
 -- the checks of the records, the last of 2 and 3 to 9: the caller lends `room` records
 abbrev pub recordChecks : List ℕ → Ask → (room : ℕ) → Verdict
-recordChecks rs q room = refuseIf (any (spoilt rs) (q .jobs)) 2 0 (problemChecks false (tableIn rs (q .jobs) room) q)
+recordChecks rs q room = refuseIf (any (spoilt rs) (q .jobs)) 2 0 (callChecks false (q .bound) (tableIn rs (q .jobs) room) q accepted)
 
 -- the checks of the distance and the records
 unfoldable pub saveChecks : List ℕ → (room : ℕ) → Verdict
@@ -65,7 +60,7 @@ reading file room = taken (readChecks file room) file room
 
 -- the checks of a writer, for a buffer of `size` bytes
 unfoldable pub writeChecks : Loaded → Ask → (used size : ℕ) → Verdict
-writeChecks l q used size = refuseIf (ltb 65536 (lengthAfter used (q .jobs))) 1 0 (problemChecks (ltb size (lengthAfter used (q .jobs))) l q)
+writeChecks l q used size = refuseIf (ltb 65536 (lengthAfter used (q .jobs))) 1 0 (callChecks (ltb size (lengthAfter used (q .jobs))) (q .bound) l q accepted)
 
 -- the answer is the new length, and the buffer has the save behind the bytes used; every other byte is as it was
 pub record Writes (l : Loaded) (q : Ask) (used : ℕ) (old new : List ℕ) (r : Answer) : Type 0 where
@@ -78,10 +73,6 @@ pub record Writes (l : Loaded) (q : Ask) (used : ℕ) (old new : List ℕ) (r : 
 abbrev pub saved : Ask → Ask
 saved q = record { jobs = q .jobs; atoms = q .atoms; opening = q .opening; goals = q .goals; bound = q .bound; set = 0; pairs = 0 }
 
--- the first n entries of a list of 24, 0 behind them
-abbrev pub firsts : List ℕ → ℕ → List ℕ
-firsts xs n = column (λ i. getD xs i 0) n
-
 -- the records saved, as a caller that lends `room` records gets them
 abbrev pub kept : Loaded → (n room : ℕ) → Loaded
-kept l n room = record { conditions = firsts (l .conditions) n; additions = firsts (l .additions) n; deletions = firsts (l .deletions) n; durations = firsts (l .durations) n; lent = room }
+kept l n room = tabled (jobAt l) n room

@@ -6,25 +6,26 @@ use Prim.Native.Nat.{ℕ, zero, suc, _+_, _-_, _*_, min}
 use lib.Dec.{eqb, ltb}
 use lib.ListN.{length, getD, take, drop}
 use Rattle.facts.specs.Least.{any}
+use Rattle.tables.specs.declared.Action.{Action}
 use Rattle.tables.specs.declared.Loaded.{Loaded}
 use Rattle.tables.specs.declared.Ask.{Ask}
-use Rattle.tables.specs.Tables.{tabled}
+use Rattle.tables.specs.Tables.{jobAt, tabled}
 use Rattle.bytes_le.specs.Little.{number, fields}
 
 -- ── writing ──
 
 -- a record: conditions, additions, deletions (8 bytes each), duration (2), six zeros
-abbrev pub recordFields : (conditions additions deletions duration : ℕ) → List (ℕ × ℕ)
-recordFields c a d t = (8, c) ∷ (8, a) ∷ (8, d) ∷ (2, t) ∷ (6, 0) ∷ []
+abbrev pub recordFields : Action → List (ℕ × ℕ)
+recordFields a = (8, a .conditions) ∷ (8, a .additions) ∷ (8, a .deletions) ∷ (2, a .duration) ∷ (6, 0) ∷ []
 
--- the record of job i
-abbrev pub recordOf : Loaded → ℕ → List ℕ
-recordOf l i = fields (recordFields (getD (l .conditions) i 0) (getD (l .additions) i 0) (getD (l .deletions) i 0) (getD (l .durations) i 0))
+-- its bytes
+abbrev pub recordOf : Action → List ℕ
+recordOf a = fields (recordFields a)
 
 -- the records of the first n jobs
 unfoldable pub recordsOf : Loaded → ℕ → List ℕ
 recordsOf l zero = []
-recordsOf l (suc k) = recordsOf l k ++ recordOf l k
+recordsOf l (suc k) = recordsOf l k ++ recordOf (jobAt l k)
 
 -- a trailer: opening facts (8), goals (8), bound (2), job count (1), atom count (1), distance (4), which is exactly 32 times the job count
 abbrev pub trailerFields : Ask → List (ℕ × ℕ)
@@ -72,13 +73,18 @@ recordsIn file = take (32 * askIn (trailerIn file) .jobs) (drop (trailerAt file 
 unfoldable pub spoilt : List ℕ → ℕ → Bool
 spoilt rs i = any (λ j. not (eqb (getD rs (32 * i + 26 + j) 0) 0)) 6
 
--- the number of so many bytes that stands at `at` in record i
-abbrev pub field : (size : ℕ) → List ℕ → (at i : ℕ) → ℕ
-field size rs at i = number size rs (32 * i + at)
+-- record i
+abbrev pub actionIn : List ℕ → ℕ → Action
+actionIn rs i = record {
+  conditions = number 8 rs (32 * i);
+  additions = number 8 rs (32 * i + 8);
+  deletions = number 8 rs (32 * i + 16);
+  duration = number 2 rs (32 * i + 24);
+}
 
 -- the first n records, as a caller that lends `room` records gets them
 abbrev pub firstOf : List ℕ → (n room : ℕ) → Loaded
-firstOf rs n room = tabled (field 8 rs 0) (field 8 rs 8) (field 8 rs 16) (field 2 rs 24) n room
+firstOf rs n room = tabled (actionIn rs) n room
 
 -- a table by value holds the first 24
 abbrev pub tableIn : List ℕ → (jobs room : ℕ) → Loaded

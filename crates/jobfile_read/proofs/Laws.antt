@@ -15,16 +15,15 @@ use Rattle.rules.proofs.Refused.{if-hit, if-pass}
 use Rattle.tables.specs.declared.Loaded.{Loaded}
 use Rattle.tables.specs.declared.Ask.{Ask}
 use Rattle.tables.specs.declared.Answer.{Answer}
-use Rattle.tables.specs.Tables.{answer}
+use Rattle.tables.specs.Tables.{answer, withJob}
 use Rattle.tables.proofs.Laws.{said}
 use Rattle.tables.proofs.Lent.{one-tabled}
 use Rattle.jobfile.specs.declared.Read.{Read}
-use Rattle.jobfile.specs.Format.{field, firstOf, trailerAt, trailerIn, askIn, distanceIn, tooFar, recordsIn, tableIn}
+use Rattle.jobfile.specs.Format.{actionIn, firstOf, trailerAt, trailerIn, askIn, distanceIn, tooFar, recordsIn, tableIn}
 use Rattle.jobfile.specs.Calls.{recordChecks, saveChecks, nothing, whole, given, taken}
-use Rattle.jobfile_read.specs.Steps.{withRecord}
 
-pub first-more : (rs : List ℕ) (k room : ℕ) → withRecord (firstOf rs k room) rs k ≡ firstOf rs (k + 1) room
-first-more rs k room = one-tabled (field 8 rs 0) (field 8 rs 8) (field 8 rs 16) (field 2 rs 24) room k ∙ ap (λ (n : ℕ). firstOf rs n room) (sym (add-one k))
+pub first-more : (rs : List ℕ) (k room : ℕ) → withJob (firstOf rs k room) k (actionIn rs k) ≡ firstOf rs (k + 1) room
+first-more rs k room = one-tabled (actionIn rs) room k ∙ ap (λ (n : ℕ). firstOf rs n room) (sym (add-one k))
 
 -- ── what is returned ──
 

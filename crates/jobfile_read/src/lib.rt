@@ -4,11 +4,12 @@ ghost use Prim.Native.Nat.{_+_, _*_, _≤_, _<_};
 ghost use lib.ListN.{length};
 ghost use Rattle.facts.specs.Least.{any};
 ghost use Rattle.tables.specs.Tables.{Tests};
-ghost use Rattle.jobfile.specs.Format.{tooFar, spoilt, firstOf, tableIn};
+ghost use Rattle.jobfile.specs.Format.{tooFar, spoilt, actionIn, firstOf, tableIn};
 ghost use Rattle.jobfile.specs.Calls.{recordChecks, saveChecks, given, taken, nothing, reading};
-ghost use Rattle.jobfile_read.specs.Steps.{withRecord, Asks};
+ghost use Rattle.jobfile_read.specs.Steps.{Asks};
 use bytes_le::number;
 use jobfile::Read;
+use tables::Action;
 use tables::Answer;
 use tables::Ask;
 use tables::Loaded;
@@ -34,17 +35,18 @@ fn any_spoilt(records: &[u8], n: usize) -> bool
     false
 }
 
-// Record i taken into the table.
-fn with_record(l: Loaded, records: &[u8], i: usize) -> Loaded
-    requires { ⌜ (i < 24) × (32 * i + 32 ≤ length (now records)) ⌝ }
-    ensures { λ r. ⌜ r ≡ withRecord l (now (records .entry)) i ⌝ }
+// Record i.
+fn action_in(records: &[u8], i: usize) -> Action
+    requires { ⌜ 32 * i + 32 ≤ length (now records) ⌝ }
+    ensures { λ r. ⌜ r ≡ actionIn (now (records .entry)) i ⌝ }
 {
     let at = 32 * i;
-    let c = number(records, at, 8);
-    let a = number(records, at + 8, 8);
-    let d = number(records, at + 16, 8);
-    let duration = number(records, at + 24, 2) as u16;
-    tables::with_job(l, i, c, a, d, duration)
+    Action {
+        conditions: number(records, at, 8),
+        additions: number(records, at + 8, 8),
+        deletions: number(records, at + 16, 8),
+        duration: number(records, at + 24, 2) as u16,
+    }
 }
 
 // The first n records.
@@ -54,7 +56,8 @@ fn first_records(records: &[u8], n: usize, room: usize) -> Loaded
 {
     let mut l = tables::no_jobs(room);
     for i in 0..n {
-        l = with_record(l, records, i);
+        let a = action_in(records, i);
+        l = tables::with_job(l, i, a);
     }
     l
 }
@@ -114,7 +117,7 @@ fn read_records(records: &[u8], q: Ask, room: usize) -> Read
         return nothing(tables::refuse(2, 0, 0));
     }
     let l = first_records(records, tables::held(jobs), room);
-    let a = jobfile::problem_fault(l, q, false);
+    let a = tables::call_fault(l, q, false, q.bound);
     if a.number != 0 {
         return nothing(a);
     }

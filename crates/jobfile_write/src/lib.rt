@@ -1,6 +1,6 @@
 // The writer of job files.
 ghost use mathlib.Core.Path.{_≡_};
-ghost use Prim.Native.Nat.{_*_, _≤_, _<_};
+ghost use Prim.Native.Nat.{_*_, _≤_};
 ghost use lib.Dec.{ltb};
 ghost use lib.ListN.{length};
 ghost use Rattle.tables.specs.Tables.{Tests};
@@ -8,26 +8,20 @@ ghost use Rattle.bytes_le.specs.Little.{over};
 ghost use Rattle.jobfile.specs.Format.{recordOf, recordsOf, trailerOf, lengthAfter};
 ghost use Rattle.jobfile.specs.Calls.{Writes};
 use bytes_le::put;
+use tables::Action;
 use tables::Answer;
 use tables::Ask;
 use tables::Loaded;
 
-// A duration as the writer of numbers takes it.
-fn wide(n: u16) -> u64
-    ensures { λ r. ⌜ r ≡ n ⌝ }
+// A record, over the first 32 bytes.
+fn put_record(a: Action, out: &mut [u8])
+    requires { ⌜ 32 ≤ length (now out) ⌝ }
+    ensures { λ _. ⌜ now (out .exit) ≡ over (recordOf a) (now (out .entry)) ⌝ }
 {
-    n as u64
-}
-
-// The record of job i, over the first 32 bytes.
-fn put_record(l: Loaded, i: usize, out: &mut [u8])
-    requires { ⌜ (i < 24) × (32 ≤ length (now out)) ⌝ }
-    ensures { λ _. ⌜ now (out .exit) ≡ over (recordOf l i) (now (out .entry)) ⌝ }
-{
-    put(l.conditions[i], 8, 0, out);
-    put(l.additions[i], 8, 8, out);
-    put(l.deletions[i], 8, 16, out);
-    put(wide(l.durations[i]), 2, 24, out);
+    put(a.conditions, 8, 0, out);
+    put(a.additions, 8, 8, out);
+    put(a.deletions, 8, 16, out);
+    put(a.duration as u64, 2, 24, out);
     put(0, 6, 26, out);
 }
 
@@ -38,7 +32,7 @@ fn put_records(l: Loaded, n: usize, out: &mut [u8])
 {
     for i in 0..n {
         let at = 32 * i;
-        put_record(l, i, &mut out[at..]);
+        put_record(l.jobs[i], &mut out[at..]);
     }
 }
 
@@ -78,7 +72,7 @@ pub fn write_file(l: Loaded, q: Ask, used: usize, buf: &mut [u8]) -> Answer
         return tables::refuse(1, 0, 0);
     }
     let end = used + 32 * jobs;
-    let a = jobfile::problem_fault(l, q, buf.len() < end + 24);
+    let a = tables::call_fault(l, q, buf.len() < end + 24, q.bound);
     if a.number != 0 {
         return a;
     }

@@ -10,7 +10,7 @@ ghost use Rattle.facts.specs.Least.{any};
 ghost use Rattle.rules.specs.Plans.{starts};
 ghost use Rattle.rules.specs.Supports.{blocks, startFits, jobFits};
 ghost use Rattle.tables.specs.Tables.{problem};
-ghost use Rattle.verdict.specs.Offered.{Given, chosen};
+ghost use Rattle.verdict.specs.Steps.{Given, chosen};
 ghost use Rattle.named.specs.Named.{consumer, inRow, wants, RowOf, RowAt};
 
 // Who has the conditions of a row, a job or End: its number, start and finish.
@@ -70,8 +70,9 @@ fn blocked(l: Loaded, q: Ask, s: &[u16], c: Holder, from: u32) -> u64
     let n = q.jobs;
     let mut w = 0u64;
     for d in 0..n {
-        let way = in_way(s[d], l.durations[d], from, c.till);
-        w = w | word_if(way, d != c.me, l.deletions[d]);
+        let a = l.jobs[d];
+        let way = in_way(s[d], a.duration, from, c.till);
+        w = w | word_if(way, d != c.me, a.deletions);
     }
     w
 }
@@ -89,8 +90,9 @@ fn job_fits(l: Loaded, q: Ask, s: &[u16], c: Holder, a: usize) -> u64
     requires { ⌜ Given q (now s) × (a < q .jobs) ⌝ }
     ensures { λ r. ⌜ Word (λ p. jobFits (problem l q) (starts (now (s .entry))) p (consumer c) a) r ⌝ }
 {
-    if over_by(s[a], l.durations[a], c.at) {
-        return less(l.additions[a], blocked(l, q, s, c, s[a] as u32));
+    let j = l.jobs[a];
+    if over_by(s[a], j.duration, c.at) {
+        return less(j.additions, blocked(l, q, s, c, s[a] as u32));
     }
     0
 }
@@ -134,7 +136,8 @@ fn holder_of(l: Loaded, q: Ask, s: &[u16], b: usize) -> Holder
     if b == q.jobs {
         return holder_at(b, q.bound, 0);
     }
-    holder_at(b, s[b], l.durations[b])
+    let a = l.jobs[b];
+    holder_at(b, s[b], a.duration)
 }
 
 // The conditions of row b; a job that is out has none.
@@ -148,7 +151,8 @@ fn wanted(l: Loaded, q: Ask, s: &[u16], b: usize) -> u64
     if s[b] == 65535 {
         return 0;
     }
-    l.conditions[b]
+    let a = l.jobs[b];
+    a.conditions
 }
 
 // Row b of the table of supports, by words.

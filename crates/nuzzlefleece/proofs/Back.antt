@@ -4,37 +4,26 @@ use mathlib.Core.Path.{_≡_, ap, _∙_}
 use mathlib.Core.List.{List}
 use Prim.Native.Nat.{ℕ, _≤_, _<_}
 use native.Mathlib.Omega.{arith}
-use lib.ListN.{length, getD, take, replicate, length-replicate}
+use lib.ListN.{length, take, replicate, length-replicate}
 use Rattle.rules.specs.Refusals.{accepted}
 use Rattle.tables.specs.declared.Loaded.{Loaded}
 use Rattle.tables.specs.declared.Ask.{Ask}
 use Rattle.tables.specs.declared.Answer.{Answer}
-use Rattle.tables.specs.Tables.{answer}
-use Rattle.tables.proofs.Lent.{filled-at}
+use Rattle.tables.specs.Tables.{noJob, recordAt, jobAt, filled, answer}
+use Rattle.tables.proofs.Lent.{filled-at, filled-rest}
 use Rattle.jobfile.specs.declared.Read.{Read}
-use Rattle.jobfile.specs.Calls.{whole as readWhole, reading, Writes, saved, firsts, kept}
+use Rattle.jobfile.specs.Calls.{whole as readWhole, reading, Writes, saved, kept}
 use Rattle.jobfile.proofs.Back.{written-back}
-use Rattle.records.specs.declared.Action.{Action}
-use Rattle.records.specs.Records.{recordAt, loaded, recordOf, placed}
-use Rattle.records.proofs.Lies.{loaded-at, placed-at, placed-rest}
+use Rattle.tables.specs.declared.Action.{Action}
+use Rattle.records.specs.Records.{loaded}
+use Rattle.records.proofs.Lies.{loaded-at}
 use Rattle.nuzzlefleece.specs.declared.ReadAnswer.{ReadAnswer}
 use Rattle.nuzzlefleece.specs.Files.{told, Reads}
 use Rattle.nuzzlefleece.proofs.Fits.{reading-fits}
 
 -- the first n jobs of a table that is kept are its own
-kept-at : (l : Loaded) (n room i : ℕ) → i < n → i < 24 → recordOf (kept l n room) i ≡ recordOf l i
-kept-at l n room i h few = λ j. record {
-  conditions = at (l .conditions) j;
-  additions = at (l .additions) j;
-  deletions = at (l .deletions) j;
-  duration = at (l .durations) j;
-}
-  where
-    long : length {A = ℕ} (replicate 24 0) ≡ 24
-    long = length-replicate {A = ℕ} 24 0
-
-    at : (xs : List ℕ) → getD (firsts xs n) i 0 ≡ getD xs i 0
-    at xs = filled-at (λ k. getD xs k 0) n (replicate 24 0) i 0 h (omega (arith, long))
+kept-at : (l : Loaded) (n room i : ℕ) → i < n → i < 24 → jobAt (kept l n room) i ≡ jobAt l i
+kept-at l n room i h few = filled-at (jobAt l) n (replicate 24 noJob) i noJob h (omega (arith, length-replicate {A = Action} 24 noJob))
 
 -- the reader's lent records `new` after a save of the writer's records ts was read into `old`
 pub record Restored (ts : List Action) (q : Ask) (old new : List Action) (a : ReadAnswer) : Type 0 where
@@ -48,8 +37,8 @@ pub restored : (ts : List Action) (q : Ask) (used : ℕ) (buf buf′ : List ℕ)
 restored ts q used buf buf′ r w z old new a lent x = record {
   said = ap (λ (b : ReadAnswer). b .answer) says;
   numbers = ap (λ (b : ReadAnswer). b .ask) says;
-  jobs = λ i h. ap (λ (us : List Action). recordAt us i) records ∙ (placed-at table (q .jobs) old i h lent ∙ (kept-at (loaded ts) (q .jobs) (length old) i h (omega (arith, few)) ∙ loaded-at ts i (omega (arith, few))));
-  rest = λ i h. ap (λ (us : List Action). recordAt us i) records ∙ placed-rest table (q .jobs) old i h;
+  jobs = λ i h. ap (λ (us : List Action). recordAt us i) records ∙ (filled-at (jobAt table) (q .jobs) old i noJob h (omega (arith, lent)) ∙ (kept-at (loaded ts) (q .jobs) (length old) i h (omega (arith, few)) ∙ loaded-at ts i (omega (arith, few))));
+  rest = λ i h. ap (λ (us : List Action). recordAt us i) records ∙ filled-rest (jobAt table) (q .jobs) old i noJob h;
 }
   where
     file : List ℕ
@@ -67,5 +56,5 @@ restored ts q used buf buf′ r w z old new a lent x = record {
     says : a ≡ told (readWhole (answer accepted 0 0) (saved q) table)
     says = x .says ∙ ap told back
 
-    records : new ≡ placed table (q .jobs) old
-    records = x .records ∙ ap (λ (y : Read). placed (y .table) (y .ask .jobs) old) back
+    records : new ≡ filled (jobAt table) (q .jobs) old
+    records = x .records ∙ ap (λ (y : Read). filled (jobAt (y .table)) (y .ask .jobs) old) back

@@ -1,6 +1,6 @@
 -- The walk of a call that fills lent places from a lent list, `fn f(t: &[Action], q: Ask, given: &[N], out: &mut [E]) -> Answer { let l = records::load(t); core(l, q, given, out) }`, once for every core and all element types N and E.
 --     function g c     the MIR, where `load`'s key is g and the core's is c
---     Says             what is said of the table, q, the list given, what `out` held, the answer and what `out` holds at exit: the core's promise, of the table as handed in, and f's, of the lent records
+--     Says             what is said of the table, q, the list given, what `out` held, what it holds at exit and the answer: the core's promise, of the table as handed in, and f's, of the lent records
 --     derive-meets     the MIR meets f's contract, where the entries g and c of the table meet theirs
 -- Assumes `Given`.
 use mathlib.Core.Path.{_≡_, refl, subst}
@@ -45,9 +45,9 @@ use Rattle.tables.proofs.Ask as P
 use Rattle.tables.proofs.Ask.Laws as P′
 use Rattle.tables.proofs.Answer as L
 use Rattle.tables.proofs.Answer.Laws as L′
-use Rattle.records.specs.declared.Action.{Action}
+use Rattle.tables.specs.declared.Action.{Action}
 use Rattle.records.specs.Records.{loaded}
-use Rattle.records.proofs.Action as T
+use Rattle.tables.proofs.Action as T
 use Rattle.nuzzlefleece.proofs.Loading.{Load, v, Own, to-load, Loads, said-load, asked-load}
 
 module _ (N E : RattleType) (ε : Ty) where
@@ -79,12 +79,12 @@ module _ (N E : RattleType) (ε : Ty) where
   abbrev stayed : Stays (ended .signature .params) (ended .kept)
   stayed = (stay-none-slice (0 ∷ []) tt (plain (λ _. T.the-row)) yes, (stay-none (λ _. P.the-row) yes, (stay-none-slice (1 ∷ []) tt (plain (λ _. N)) yes, (gave-slice (2 ∷ []) tt (plain (λ _. E)), tt))))
 
-  module _ (Says : Loaded → Ask → (given : List (N .Denot)) (old : List (E .Denot)) → Answer → (new : List (E .Denot)) → Type 0) where
+  module _ (Says : Loaded → Ask → (given : List (N .Denot)) (old new : List (E .Denot)) → Answer → Type 0) where
     abbrev clauses : {M : Type 1} (𝓤 : URA M) → Clauses 𝓤 ended
-    clauses 𝓤 κs a = record { ghost = Unit {0}; requires = λ _. emp 𝓤; ensures = λ _ r e. fact 𝓤 (Says (loaded (now (a .0))) (a .1 .0) (now (a .1 .1 .0)) (now (a .1 .1 .1 .0)) r (now (e .1 .1 .1 .0))) }
+    clauses 𝓤 κs a = record { ghost = Unit {0}; requires = λ _. emp 𝓤; ensures = λ _ r e. fact 𝓤 (Says (loaded (now (a .0))) (a .1 .0) (now (a .1 .1 .0)) (now (a .1 .1 .1 .0)) (now (e .1 .1 .1 .0)) r) }
 
     abbrev core-clauses : {M : Type 1} (𝓤 : URA M) → Clauses 𝓤 core-ended
-    core-clauses 𝓤 κs a = record { ghost = Unit {0}; requires = λ _. emp 𝓤; ensures = λ _ r e. fact 𝓤 (Says (a .0) (a .1 .0) (now (a .1 .1 .0)) (now (a .1 .1 .1 .0)) r (now (e .1 .1 .1 .0))) }
+    core-clauses 𝓤 κs a = record { ghost = Unit {0}; requires = λ _. emp 𝓤; ensures = λ _ r e. fact 𝓤 (Says (a .0) (a .1 .0) (now (a .1 .1 .0)) (now (a .1 .1 .1 .0)) (now (e .1 .1 .1 .0)) r) }
 
     abbrev pub Core : {M : Type 1} (𝓤 : URA M) (H : Heap 𝓤) (A : Atoms 𝓤) → Contract 𝓤
     Core 𝓤 H A = tripleOf 𝓤 H A core-signature (closing 𝓤 H A core-ended (core-clauses 𝓤))
@@ -145,7 +145,7 @@ module _ (N E : RattleType) (ε : Ty) where
               use2 W (raw (Core 𝓤 H A .pre to-core))
               (qed W ((‵ (flft κ₁ q₁) ⊛ (‵ (flft κ₂ q₂) ⊛ ‵ ftrue)) ∷ ‵ (owns (G.the-row ∷ P.the-row ∷ ShrSlice (named 0) κ₁ N ∷ MutSlice (named 1) κ₂ E ∷ []) args passed) ∷ []) ∵ join ! $ frame ! $ done !) $ frame ! $ done !
 
-        exits : (r : Answer) (z : Val) (zs : List (E .Denot)) → Is P.the-row p (vp ∷ []) → Says (loaded (s .now)) p (n .now) (d .now) r zs → length zs ≡ length (d .now)
+        exits : (r : Answer) (z : Val) (zs : List (E .Denot)) → Is P.the-row p (vp ∷ []) → Says (loaded (s .now)) p (n .now) (d .now) zs r → length zs ≡ length (d .now)
             → ent 𝓤 (⋆ 𝓤 H A (‵ (L.the-row .own r (z ∷ [])) ∷ (‵ (flft κ₁ q₁) ⊛ (‵ (flft κ₂ q₂) ⊛ ‵ ftrue)) ∷ ‵ (finally E (d .name) zs) ∷ ‵ OwnN ∷ (‵ (flft κ q) ⊛ ‵ ftrue) ∷ ‵ OwnS ∷ [])) (Post z)
         exits r z zs ip e l =
             qed W (‵ (L.the-row .own r (z ∷ [])) ∷ (‵ (flft κ₁ q₁) ⊛ (‵ (flft κ₂ q₂) ⊛ ‵ ftrue)) ∷ ‵ (finally E (d .name) zs) ∷ ‵ OwnN ∷ (‵ (flft κ q) ⊛ ‵ ftrue) ∷ ‵ OwnS ∷ []) ∵
@@ -177,14 +177,14 @@ module _ (N E : RattleType) (ε : Ty) where
               calls-at ! fm (Core 𝓤 H A) known-core (to-core g w) (and-then ! (load ! (from ! (stop !)) (look ! 8 refl)) (and-then ! (load ! (from ! (stop !)) (look ! 14 refl)) (and-then ! (load ! (from ! (stop !)) (look ! 12 refl)) (and-then ! (load ! (from ! (stop !)) (look ! 4 refl)) (no-more !))))) (λ z.
               use1 W (later (some (λ (r : Answer). ((‵ (flft κ₁ q₁) ⊛ (‵ (flft κ₂ q₂) ⊛ ‵ ftrue)) ⊛ ‵ (L.the-row .own r (z ∷ []))) ⊛ raw (ensured 𝓤 H A core-ended (core-clauses 𝓤) (κ₁, (κ₂, tt)) (args g w) tt r)))) (id⊢ 𝓤 _) $ await ! tt $ pick ! (λ r.
               -- what the core ensures, at some last list
-              split ! $ move ! (1 ∷ []) $ use1 W (some (λ (ws : Unit {0} × (Unit {0} × (Unit {0} × (List (E .Denot) × Unit {0})))). ‵ (lasts core-ended (κ₁, (κ₂, tt)) (args g w) ws) ⊛ raw (fact 𝓤 (Says g p (n .now) (d .now) r (ws .1 .1 .1 .0))))) (id⊢ 𝓤 _) $ pick ! (λ ws.
-              split ! $ move ! (1 ∷ []) $ heard ! (Says g p (n .now) (d .now) r (ws .1 .1 .1 .0)) (λ e′. fsplit ! $ drop ! $ fsplit ! $ drop ! $ fsplit ! $ drop ! $ fsplit ! $ fsplit ! $ move ! (1 ∷ []) $ feqL ! (λ l.
+              split ! $ move ! (1 ∷ []) $ use1 W (some (λ (ws : Unit {0} × (Unit {0} × (Unit {0} × (List (E .Denot) × Unit {0})))). ‵ (lasts core-ended (κ₁, (κ₂, tt)) (args g w) ws) ⊛ raw (fact 𝓤 (Says g p (n .now) (d .now) (ws .1 .1 .1 .0) r)))) (id⊢ 𝓤 _) $ pick ! (λ ws.
+              split ! $ move ! (1 ∷ []) $ heard ! (Says g p (n .now) (d .now) (ws .1 .1 .1 .0) r) (λ e′. fsplit ! $ drop ! $ fsplit ! $ drop ! $ fsplit ! $ drop ! $ fsplit ! $ fsplit ! $ move ! (1 ∷ []) $ feqL ! (λ l.
               -- [the last list; true; the tokens and the result; what given owns; κ's token; what t owns; _7; …]
               move ! (2 ∷ []) $ split ! $ move ! (1 ∷ []) $ peeks ! L.the-row (Is L.the-row) (shows 𝓤 H A L.the-row) r (z ∷ []) (λ is′.
               land ! (from ! (stop !)) (init ! 21 refl (LL.lawful L.the-type L′.the-laws 𝓤 H A W .typed r (z ∷ []) is′ .0)) $
               returns ! (look ! 21 refl) $ forget ! 7 refl $ forget ! 9 refl $ forget ! 11 refl $ forget ! 13 refl $ forget ! 15 refl $ forget ! 17 refl $ forget ! 19 refl $ forget ! 21 refl $
               move ! (21 ∷ 22 ∷ []) $ free1 ! $ move ! (19 ∷ 20 ∷ []) $ free1 ! $ move ! (17 ∷ 18 ∷ []) $ free1 ! $ move ! (15 ∷ 16 ∷ []) $ free1 ! $ move ! (13 ∷ 14 ∷ []) $ free1 ! $ move ! (11 ∷ 12 ∷ []) $ free1 ! $ move ! (9 ∷ 10 ∷ []) $ free1 ! $ move ! (7 ∷ 8 ∷ []) $ free1 ! $ free0 ! $
-              keep ! (0 ∷ 1 ∷ 2 ∷ 4 ∷ 5 ∷ 6 ∷ []) $ by ! (exits r z (ws .1 .1 .1 .0) ip (subst (λ (y : Loaded). Says y p (n .now) (d .now) r (ws .1 .1 .1 .0)) e e′) l)))))))))))))))))))
+              keep ! (0 ∷ 1 ∷ 2 ∷ 4 ∷ 5 ∷ 6 ∷ []) $ by ! (exits r z (ws .1 .1 .1 .0) ip (subst (λ (y : Loaded). Says y p (n .now) (d .now) (ws .1 .1 .1 .0) r) e e′) l)))))))))))))))))))
 
       pub derive-meets : (𝓣 : Tables 𝓤 H) → Triple 𝓤 (𝓣 .C #g) (Load 𝓤 H A mem run) → Triple 𝓤 (𝓣 .C #c) (Core 𝓤 H A)
           → Meets 𝓤 H A signature (WpFn 𝓤 H (𝓣 .C) (𝓣 .Λ) (function #g #c)) (closing 𝓤 H A ended (clauses 𝓤))

@@ -1,6 +1,6 @@
 -- The walk of a call that fills lent places, `fn f(t: &[Action], p: P, out: &mut [E]) -> Answer { let l = records::load(t); core(l, p, out) }`, once for every core, every struct P of numbers and every element type E.
 --     function g c     the MIR, where `load`'s key is g and the core's is c
---     Says             what is said of the table, p, what `out` held, the answer and what `out` holds at exit: the core's promise, of the table as handed in, and f's, of the lent records
+--     Says             what is said of the table, p, what `out` held, what it holds at exit and the answer: the core's promise, of the table as handed in, and f's, of the lent records
 --     fill-meets       the MIR meets f's contract, where the entries g and c of the table meet theirs
 -- Assumes `Given`.
 use mathlib.Core.Path.{_≡_, refl, subst}
@@ -46,9 +46,9 @@ use Rattle.tables.proofs.Ask as ask
 use Rattle.tables.proofs.Ask.Laws as ask′
 use Rattle.tables.proofs.Answer as L
 use Rattle.tables.proofs.Answer.Laws as L′
-use Rattle.records.specs.declared.Action.{Action}
+use Rattle.tables.specs.declared.Action.{Action}
 use Rattle.records.specs.Records.{loaded}
-use Rattle.records.proofs.Action as T
+use Rattle.tables.proofs.Action as T
 use Rattle.nuzzlefleece.proofs.Save as save
 use Rattle.nuzzlefleece.proofs.Save.Laws as save′
 use Rattle.nuzzlefleece.proofs.Loading.{Load, v, Own, to-load, Loads, said-load, asked-load}
@@ -102,12 +102,12 @@ module _ (N : Numbers) (E : RattleType) (ε : Ty) where
   abbrev stayed : Stays (ended .signature .params) (ended .kept)
   stayed = (stay-none-slice (0 ∷ []) tt (plain (λ _. T.the-row)) yes, (stay-none (λ _. P) yes, (gave-slice (1 ∷ []) tt (plain (λ _. E)), tt)))
 
-  module _ (Says : Loaded → Q .D → (old : List (E .Denot)) → Answer → (new : List (E .Denot)) → Type 0) where
+  module _ (Says : Loaded → Q .D → (old new : List (E .Denot)) → Answer → Type 0) where
     abbrev clauses : {M : Type 1} (𝓤 : URA M) → Clauses 𝓤 ended
-    clauses 𝓤 κs a = record { ghost = Unit {0}; requires = λ _. emp 𝓤; ensures = λ _ r e. fact 𝓤 (Says (loaded (now (a .0))) (a .1 .0) (now (a .1 .1 .0)) r (now (e .1 .1 .0))) }
+    clauses 𝓤 κs a = record { ghost = Unit {0}; requires = λ _. emp 𝓤; ensures = λ _ r e. fact 𝓤 (Says (loaded (now (a .0))) (a .1 .0) (now (a .1 .1 .0)) (now (e .1 .1 .0)) r) }
 
     abbrev core-clauses : {M : Type 1} (𝓤 : URA M) → Clauses 𝓤 core-ended
-    core-clauses 𝓤 κs a = record { ghost = Unit {0}; requires = λ _. emp 𝓤; ensures = λ _ r e. fact 𝓤 (Says (a .0) (a .1 .0) (now (a .1 .1 .0)) r (now (e .1 .1 .0))) }
+    core-clauses 𝓤 κs a = record { ghost = Unit {0}; requires = λ _. emp 𝓤; ensures = λ _ r e. fact 𝓤 (Says (a .0) (a .1 .0) (now (a .1 .1 .0)) (now (e .1 .1 .0)) r) }
 
     abbrev pub Core : {M : Type 1} (𝓤 : URA M) (H : Heap 𝓤) (A : Atoms 𝓤) → Contract 𝓤
     Core 𝓤 H A = tripleOf 𝓤 H A core-signature (closing 𝓤 H A core-ended (core-clauses 𝓤))
@@ -152,7 +152,7 @@ module _ (N : Numbers) (E : RattleType) (ε : Ty) where
               qed W (‵ (flft κ′ q′) ∷ ‵ OwnD ∷ []) ∵ nothing ! $ move ! (2 ∷ 0 ∷ []) $ fjoin ! $ owned ! P (Is P) ((LL.makes Q (N .plain)) 𝓤 H A) p (vp ∷ []) ip $ fjoin ! $
               owned ! G.the-row (Is G.the-row) ((LL.makes G.the-type G′.the-plain) 𝓤 H A) g (w ∷ []) is $ fjoin ! $ nothing ! $ move ! (2 ∷ 0 ∷ []) $ join ! $ join ! $ frame ! $ done !
 
-        exits : (r : Answer) (z : Val) (zs : List (E .Denot)) → Is P p (vp ∷ []) → Says (loaded (s .now)) p (d .now) r zs → length zs ≡ length (d .now)
+        exits : (r : Answer) (z : Val) (zs : List (E .Denot)) → Is P p (vp ∷ []) → Says (loaded (s .now)) p (d .now) zs r → length zs ≡ length (d .now)
             → ent 𝓤 (⋆ 𝓤 H A (‵ (L.the-row .own r (z ∷ [])) ∷ (‵ (flft κ′ q′) ⊛ ‵ ftrue) ∷ ‵ (finally E (d .name) zs) ∷ (‵ (flft κ q) ⊛ ‵ ftrue) ∷ ‵ OwnS ∷ [])) (Post z)
         exits r z zs ip e l =
             qed W (‵ (L.the-row .own r (z ∷ [])) ∷ (‵ (flft κ′ q′) ⊛ ‵ ftrue) ∷ ‵ (finally E (d .name) zs) ∷ (‵ (flft κ q) ⊛ ‵ ftrue) ∷ ‵ OwnS ∷ []) ∵
@@ -182,14 +182,14 @@ module _ (N : Numbers) (E : RattleType) (ε : Ty) where
               calls-at ! fm (Core 𝓤 H A) known-core (to-core g w) (and-then ! (load ! (from ! (stop !)) (look ! 7 refl)) (and-then ! (load ! (from ! (stop !)) (look ! 11 refl)) (and-then ! (load ! (from ! (stop !)) (look ! 3 refl)) (no-more !)))) (λ z.
               use1 W (later (some (λ (r : Answer). ((‵ (flft κ′ q′) ⊛ ‵ ftrue) ⊛ ‵ (L.the-row .own r (z ∷ []))) ⊛ raw (ensured 𝓤 H A core-ended (core-clauses 𝓤) (κ′, tt) (g, (p, (d, tt))) tt r)))) (id⊢ 𝓤 _) $ await ! tt $ pick ! (λ r.
               -- what the core ensures, at some last list
-              split ! $ move ! (1 ∷ []) $ use1 W (some (λ (ws : Lasts core-ended (κ′, tt) (g, (p, (d, tt)))). ‵ (lasts core-ended (κ′, tt) (g, (p, (d, tt))) ws) ⊛ raw (fact 𝓤 (Says g p (d .now) r (ws .1 .1 .0))))) (id⊢ 𝓤 _) $ pick ! (λ ws.
-              split ! $ move ! (1 ∷ []) $ heard ! (Says g p (d .now) r (ws .1 .1 .0)) (λ e′. fsplit ! $ drop ! $ fsplit ! $ drop ! $ fsplit ! $ fsplit ! $ move ! (1 ∷ []) $ feqL ! (λ l.
+              split ! $ move ! (1 ∷ []) $ use1 W (some (λ (ws : Lasts core-ended (κ′, tt) (g, (p, (d, tt)))). ‵ (lasts core-ended (κ′, tt) (g, (p, (d, tt))) ws) ⊛ raw (fact 𝓤 (Says g p (d .now) (ws .1 .1 .0) r)))) (id⊢ 𝓤 _) $ pick ! (λ ws.
+              split ! $ move ! (1 ∷ []) $ heard ! (Says g p (d .now) (ws .1 .1 .0) r) (λ e′. fsplit ! $ drop ! $ fsplit ! $ drop ! $ fsplit ! $ fsplit ! $ move ! (1 ∷ []) $ feqL ! (λ l.
               -- [the last list; true; κ′'s token and the result; κ's token; what t owns; _6; …]
               move ! (2 ∷ []) $ split ! $ move ! (1 ∷ []) $ peeks ! L.the-row (Is L.the-row) (shows 𝓤 H A L.the-row) r (z ∷ []) (λ is′.
               land ! (from ! (stop !)) (init ! 18 refl (LL.lawful L.the-type L′.the-laws 𝓤 H A W .typed r (z ∷ []) is′ .0)) $
               returns ! (look ! 18 refl) $ forget ! 6 refl $ forget ! 8 refl $ forget ! 10 refl $ forget ! 12 refl $ forget ! 14 refl $ forget ! 16 refl $ forget ! 18 refl $
               move ! (18 ∷ 19 ∷ []) $ free1 ! $ move ! (16 ∷ 17 ∷ []) $ free1 ! $ move ! (14 ∷ 15 ∷ []) $ free1 ! $ move ! (12 ∷ 13 ∷ []) $ free1 ! $ move ! (10 ∷ 11 ∷ []) $ free1 ! $ move ! (8 ∷ 9 ∷ []) $ free1 ! $ move ! (6 ∷ 7 ∷ []) $ free1 ! $ free0 ! $
-              keep ! (0 ∷ 1 ∷ 2 ∷ 4 ∷ 5 ∷ []) $ by ! (exits r z (ws .1 .1 .0) ip (subst (λ (y : Loaded). Says y p (d .now) r (ws .1 .1 .0)) e e′) l))))))))))))))))))
+              keep ! (0 ∷ 1 ∷ 2 ∷ 4 ∷ 5 ∷ []) $ by ! (exits r z (ws .1 .1 .0) ip (subst (λ (y : Loaded). Says y p (d .now) (ws .1 .1 .0) r) e e′) l))))))))))))))))))
 
       pub fill-meets : (𝓣 : Tables 𝓤 H) → Triple 𝓤 (𝓣 .C #g) (Load 𝓤 H A mem run) → Triple 𝓤 (𝓣 .C #c) (Core 𝓤 H A)
           → Meets 𝓤 H A signature (WpFn 𝓤 H (𝓣 .C) (𝓣 .Λ) (function #g #c)) (closing 𝓤 H A ended (clauses 𝓤))

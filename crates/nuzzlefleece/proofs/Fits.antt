@@ -14,12 +14,12 @@ use Rattle.rules.specs.Refusals.{Verdict, refuseIf}
 use Rattle.tables.specs.declared.Loaded.{Loaded}
 use Rattle.tables.specs.declared.Ask.{Ask}
 use Rattle.tables.specs.declared.Answer.{Answer}
-use Rattle.tables.specs.Tables.{answer}
+use Rattle.tables.specs.Tables.{jobAt, filled, answer}
 use Rattle.jobfile.specs.Format.{trailerIn, askIn, recordsIn, tableIn}
 use Rattle.jobfile.specs.Calls.{saveChecks, readChecks, whole, nothing, reading}
-use Rattle.jobfile.proofs.Checks.{problem-accepts, problem-count}
-use Rattle.records.specs.declared.Action.{Action}
-use Rattle.records.specs.Records.{placed}
+use Rattle.tables.proofs.Laws.{accepts}
+use Rattle.tables.proofs.Calls.{call-checks, cleared}
+use Rattle.tables.specs.declared.Action.{Action}
 use Rattle.nuzzlefleece.specs.declared.ReadAnswer.{ReadAnswer}
 use Rattle.nuzzlefleece.specs.Files.{Reads}
 
@@ -39,7 +39,7 @@ accepted-fits file room z =
     let q = askIn (trailerIn file) in
     let l = tableIn (recordsIn file) (q .jobs) room in
     let h = passes _ 2 0 _ (λ e. omega arith) (passes _ 2 0 _ (λ e. omega arith) (passes _ 2 0 _ (λ e. omega arith) (passes _ 1 0 _ (λ e. omega arith) z .1) .1) .1) .1 in
-    (problem-count false l q (problem-accepts false l q h), at-most room (q .jobs) (passes _ 3 0 _ (λ e. omega arith) h .0))
+    (cleared false (q .bound) l q (accepts (call-checks false (q .bound) l q) h) .few, at-most room (q .jobs) (passes _ 3 0 _ (λ e. omega arith) h .0))
 
 -- on refusal there are no jobs
 either-fits : (b : Bool) (a : Answer) (q : Ask) (l : Loaded) (room : ℕ) → (b ≡ true → Fit (q .jobs) room) → Fit (cond b (whole a q l) (nothing a) .ask .jobs) room
@@ -59,8 +59,8 @@ either-says false a q l = refl
 pub reading-says : (file : List ℕ) (room : ℕ) → reading file room .answer ≡ answer (readChecks file room) 0 0
 reading-says file room = either-says (eqb (readChecks file room .number) 0) _ _ _
 
-either-old : (b : Bool) (a : Answer) (q : Ask) (l : Loaded) (old : List Action) → (b ≡ true → ⊥) → placed (cond b (whole a q l) (nothing a) .table) (cond b (whole a q l) (nothing a) .ask .jobs) old ≡ old
-unfolding placed
+either-old : (b : Bool) (a : Answer) (q : Ask) (l : Loaded) (old : List Action) → (b ≡ true → ⊥) → filled (jobAt (cond b (whole a q l) (nothing a) .table)) (cond b (whole a q l) (nothing a) .ask .jobs) old ≡ old
+unfolding filled
 either-old true a q l old ne = absurd (ne refl)
 either-old false a q l old ne = refl
 

@@ -44,9 +44,9 @@ use Rattle.tables.proofs.Ask as P
 use Rattle.tables.proofs.Ask.Laws as P′
 use Rattle.tables.proofs.Answer as L
 use Rattle.tables.proofs.Answer.Laws as L′
-use Rattle.records.specs.declared.Action.{Action}
+use Rattle.tables.specs.declared.Action.{Action}
 use Rattle.records.specs.Records.{loaded}
-use Rattle.records.proofs.Action as T
+use Rattle.tables.proofs.Action as T
 use Rattle.nuzzlefleece.proofs.Loading.{Load, v, Own, to-load, Loads, said-load, asked-load}
 
 module _ (N : RattleType) where

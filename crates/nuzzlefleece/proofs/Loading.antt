@@ -22,9 +22,9 @@ use denote.Triple.Spec.{tripleOf}
 use denote.Triple.Statement.{Contract}
 use denote.Triple.Clauses.{ensured, lasts}
 use Rattle.tables.specs.declared.Loaded.{Loaded}
-use Rattle.records.specs.declared.Action.{Action}
+use Rattle.tables.specs.declared.Action.{Action}
 use Rattle.records.specs.Records.{loaded}
-use Rattle.records.proofs.Action as T
+use Rattle.tables.proofs.Action as T
 use Rattle.records.proofs.load as g
 
 module _ {M : Type 1} (𝓤 : URA M) (H : Heap 𝓤) (A : Atoms 𝓤) (mem : Memory → SProp 𝓤) (run : Routine → Fun 𝓤) where

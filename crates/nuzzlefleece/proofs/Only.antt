@@ -3,14 +3,10 @@
 use mathlib.Core.Path.{_≡_, sym, _∙_}
 use mathlib.Core.List.{List}
 use Prim.Native.Nat.{ℕ}
-use lib.Dec.{ltb}
-use lib.ListN.{length}
-use Rattle.rules.specs.Refusals.{accepted}
 use Rattle.tables.specs.declared.Loaded.{Loaded}
 use Rattle.tables.specs.declared.Ask.{Ask}
 use Rattle.tables.specs.declared.Answer.{Answer}
-use Rattle.tables.specs.Tables.{answer}
-use Rattle.verdict.specs.Offered.{offered}
+use Rattle.verdict.specs.Offered.{ChecksPlan}
 use Rattle.verdict.proofs.Only as verdict
 use Rattle.bindings.specs.Bindings.{Supports, Pairs}
 use Rattle.bindings.proofs.Only as bindings
@@ -22,7 +18,7 @@ use Rattle.planning.specs.Planning.{PlansWithin, BoundsWithin}
 use Rattle.planning.proofs.Only as planning
 use Rattle.jobfile.specs.Calls.{Writes}
 use Rattle.jobfile_write.proofs.Only as jobfile_write
-use Rattle.records.specs.declared.Action.{Action}
+use Rattle.tables.specs.declared.Action.{Action}
 use Rattle.records.specs.Records.{loaded}
 use Rattle.nuzzlefleece.specs.declared.ReadAnswer.{ReadAnswer}
 use Rattle.nuzzlefleece.specs.declared.Save.{Save}
@@ -32,8 +28,7 @@ module _ (ts : List Action) (q : Ask) (r s : Answer) where
   abbrev l : Loaded
   l = loaded ts
 
-  pub check-plan-only : (starts : List ℕ) → r ≡ answer (offered (ltb (length starts) (q .jobs)) l q starts accepted) 0 0
-      → s ≡ answer (offered (ltb (length starts) (q .jobs)) l q starts accepted) 0 0 → r ≡ s
+  pub check-plan-only : (starts : List ℕ) → ChecksPlan l q starts r → ChecksPlan l q starts s → r ≡ s
   check-plan-only starts = verdict.check-plan-only l q starts r s
 
   module _ (old new new′ : List ℕ) where
@@ -43,17 +38,17 @@ module _ (ts : List Action) (q : Ask) (r s : Answer) where
     pub binding-pairs-only : (starts : List ℕ) → Pairs l q starts old new r → Pairs l q starts old new′ s → _≡_ {A = Answer × List ℕ} (r, new) (s, new′)
     binding-pairs-only starts = bindings.binding-pairs-only l q starts old new new′ r s
 
-    pub settle-only : (pairs : List ℕ) → Settling l q pairs old r new → Settling l q pairs old s new′ → (r ≡ s) × (new ≡ new′)
-    settle-only pairs = settle.settle-only l q pairs old r s new new′
+    pub settle-only : (pairs : List ℕ) → Settling l q pairs old new r → Settling l q pairs old new′ s → (r ≡ s) × (new ≡ new′)
+    settle-only pairs = settle.settle-only l q pairs old new new′ r s
 
-    pub earliest-only : Earliest l q old r new → Earliest l q old s new′ → (r ≡ s) × (new ≡ new′)
-    earliest-only = estimates.earliest-only l q old r s new new′
+    pub earliest-only : Earliest l q old new r → Earliest l q old new′ s → (r ≡ s) × (new ≡ new′)
+    earliest-only = estimates.earliest-only l q old new new′ r s
 
-    pub plan-within-only : PlansWithin l q old r new → PlansWithin l q old s new′ → (r ≡ s) × (new ≡ new′)
-    plan-within-only = planning.plan-within-only l q old r s new new′
+    pub plan-within-only : PlansWithin l q old new r → PlansWithin l q old new′ s → (r ≡ s) × (new ≡ new′)
+    plan-within-only = planning.plan-within-only l q old new new′ r s
 
-    pub least-bound-only : BoundsWithin l q old r new → BoundsWithin l q old s new′ → (r ≡ s) × (new ≡ new′)
-    least-bound-only = planning.least-bound-only l q old r s new new′
+    pub least-bound-only : BoundsWithin l q old new r → BoundsWithin l q old new′ s → (r ≡ s) × (new ≡ new′)
+    least-bound-only = planning.least-bound-only l q old new new′ r s
 
 -- what is saved is one struct
 pub write-file-only : (ts : List Action) (w : Save) (old new new′ : List ℕ) (r s : Answer) → Writes (loaded ts) (w .ask) (w .used) old new r → Writes (loaded ts) (w .ask) (w .used) old new′ s → (r ≡ s) × (new ≡ new′)

@@ -1,11 +1,7 @@
 // The calls: over the caller's lent job records, under names of their own for C, with no condition on the caller.
 // A call over records takes them out and hands on to the call on a table by value, all in one form, so that one walk proves them.
 ghost use mathlib.Core.Path.{_≡_};
-ghost use lib.Dec.{ltb};
-ghost use lib.ListN.{length};
-ghost use Rattle.rules.specs.Refusals.{accepted};
-ghost use Rattle.tables.specs.Tables.{answer};
-ghost use Rattle.verdict.specs.Offered.{offered};
+ghost use Rattle.verdict.specs.Offered.{ChecksPlan};
 ghost use Rattle.bindings.specs.Bindings.{Supports, Pairs};
 ghost use Rattle.estimates.specs.Earliest.{Earliest};
 ghost use Rattle.settle.specs.Settle.{Settling};
@@ -19,7 +15,7 @@ ghost use Rattle.page.specs.Page.{Pages};
 use jobfile::Read;
 use readings::BenchReading;
 use readings::Opening;
-use records::Action;
+use tables::Action;
 use tables::Answer;
 use tables::Ask;
 use tables::Loaded;
@@ -27,7 +23,7 @@ use tables::Loaded;
 // The verdict on an offered plan.
 #[no_mangle]
 pub extern "C" fn nuzzlefleece_check_plan(t: &[Action], q: Ask, starts: &[u16]) -> Answer
-    ensures { λ r. ⌜ r ≡ answer (offered (ltb (length (now (starts .entry))) (q .jobs)) (loaded (now (t .entry))) q (now (starts .entry)) accepted) 0 0 ⌝ }
+    ensures { λ r. ⌜ ChecksPlan (loaded (now (t .entry))) q (now (starts .entry)) r ⌝ }
 {
     let l = records::load(t);
     verdict::check_plan(l, q, starts)
@@ -36,7 +32,7 @@ pub extern "C" fn nuzzlefleece_check_plan(t: &[Action], q: Ask, starts: &[u16]) 
 // The first valid plan within the bound, in the stated order.
 #[no_mangle]
 pub extern "C" fn nuzzlefleece_plan_within(t: &[Action], q: Ask, out: &mut [u16]) -> Answer
-    ensures { λ r. ⌜ PlansWithin (loaded (now (t .entry))) q (now (out .entry)) r (now (out .exit)) ⌝ }
+    ensures { λ r. ⌜ PlansWithin (loaded (now (t .entry))) q (now (out .entry)) (now (out .exit)) r ⌝ }
 {
     let l = records::load(t);
     planning::plan_within(l, q, out)
@@ -45,7 +41,7 @@ pub extern "C" fn nuzzlefleece_plan_within(t: &[Action], q: Ask, out: &mut [u16]
 // The least bound, with the first plan at it.
 #[no_mangle]
 pub extern "C" fn nuzzlefleece_least_bound(t: &[Action], q: Ask, out: &mut [u16]) -> Answer
-    ensures { λ r. ⌜ BoundsWithin (loaded (now (t .entry))) q (now (out .entry)) r (now (out .exit)) ⌝ }
+    ensures { λ r. ⌜ BoundsWithin (loaded (now (t .entry))) q (now (out .entry)) (now (out .exit)) r ⌝ }
 {
     let l = records::load(t);
     planning::least_bound(l, q, out)
@@ -82,7 +78,7 @@ pub extern "C" fn nuzzlefleece_binding_pairs(
 // The earliest estimates, one a job.
 #[no_mangle]
 pub extern "C" fn nuzzlefleece_earliest(t: &[Action], q: Ask, out: &mut [u16]) -> Answer
-    ensures { λ r. ⌜ Earliest (loaded (now (t .entry))) q (now (out .entry)) r (now (out .exit)) ⌝ }
+    ensures { λ r. ⌜ Earliest (loaded (now (t .entry))) q (now (out .entry)) (now (out .exit)) r ⌝ }
 {
     let l = records::load(t);
     estimates::earliest(l, q, out)
@@ -91,7 +87,7 @@ pub extern "C" fn nuzzlefleece_earliest(t: &[Action], q: Ask, out: &mut [u16]) -
 // The least starts, one a job, for pairs of two bytes each.
 #[no_mangle]
 pub extern "C" fn nuzzlefleece_settle(t: &[Action], q: Ask, pairs: &[u8], out: &mut [u16]) -> Answer
-    ensures { λ r. ⌜ Settling (loaded (now (t .entry))) q (now (pairs .entry)) (now (out .entry)) r (now (out .exit)) ⌝ }
+    ensures { λ r. ⌜ Settling (loaded (now (t .entry))) q (now (pairs .entry)) (now (out .entry)) (now (out .exit)) r ⌝ }
 {
     let l = records::load(t);
     settle::settle(l, q, pairs, out)

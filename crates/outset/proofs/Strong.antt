@@ -1,6 +1,6 @@
 -- What is searched for a table: the table with e-deletions, which has the same plans.
 -- Assumes nothing.
-use mathlib.Core.Path.{_≡_, refl, sym, ap, subst}
+use mathlib.Core.Path.{_≡_, refl, sym, subst}
 use mathlib.Core.Logic.{inl, _↔_}
 use mathlib.Core.Bool.{Bool}
 use mathlib.Core.List.{List}
@@ -8,22 +8,22 @@ use Prim.Native.Nat.{ℕ, _+_, _≤_, _<_}
 use native.Mathlib.Omega.{arith}
 use lib.ListN.{getD}
 use Rattle.facts.specs.Facts.{Decides}
-use Rattle.rules.specs.Table.{Problem, InOrder}
+use Rattle.rules.specs.Table.{Problem, InOrder, plain}
 use Rattle.rules.specs.Plans.{Plan, In, Valid}
 use Rattle.rules.specs.Order.{First, NoPlan}
 use Rattle.rules.specs.Estimates.{Estimates}
 use Rattle.rules.proofs.Early.{Alike, never-early}
 use Rattle.tables.specs.declared.Loaded.{Loaded}
 use Rattle.tables.specs.declared.Ask.{Ask}
-use Rattle.tables.specs.Tables.{problem}
+use Rattle.tables.specs.Tables.{jobAt, problem}
 use Rattle.entries.specs.Entries.{entry}
 use Rattle.reach.specs.Reach.{Closed, Exact, strong, EWords}
-use Rattle.reach.specs.Rows.{inRows, FitIn, EDone}
+use Rattle.reach.specs.Rows.{inRows, FitIn, deleting, EDone}
 use Rattle.reach.proofs.States.{states}
 use Rattle.reach.proofs.Same.{strong-ok, same-valid}
 use Rattle.reach.proofs.EDeletes.{fit}
 use Rattle.reach.proofs.Alike.{closed-alike}
-use Rattle.reach.proofs.Words.{edone-words}
+use Rattle.reach.proofs.Words.{edone-rest, edone-words}
 use Rattle.states.specs.State.{Leads}
 use Rattle.lent.specs.Lent.{Cols, Apart, Listed, hitsOf, estOf, waitOf, ledOf}
 use Rattle.turns.specs.Checked.{Leader}
@@ -70,13 +70,16 @@ module _ (l : Loaded) (q : Ask) (ok : InOrder (problem l q)) (rows : List ℕ) (
   K = problem k q
 
   abbrev D : ℕ → ℕ
-  D i = getD (k .deletions) i 0
+  D i = jobAt k i .deletions
 
   words : EWords P (inRows rows) D
   words = edone-words l q rows k ok (x .closed) d
 
+  rest : (i : ℕ) → jobAt k i ≡ deleting (jobAt l i) (D i)
+  rest = edone-rest rows l (q .jobs) k d
+
   is-strong : K ≡ strong P D
-  is-strong = ap (λ (y : Loaded). problem y q) (d .rest)
+  is-strong = λ t. plain (q .jobs) (λ i. rest i t .conditions) (λ i. rest i t .additions) D (λ i. rest i t .duration) (q .atoms) (q .opening) (q .goals)
 
   strong-order : InOrder (strong P D)
   strong-order = strong-ok P ok (inRows rows) x D words
@@ -107,7 +110,7 @@ module _ (l : Loaded) (q : Ask) (ok : InOrder (problem l q)) (rows : List ℕ) (
     order = λ F f i. h ok bound .order F (first-same bound F f) (record { below = i .below; chosen = i .chosen });
   }
 
-  pub sets-out : (base est L M N : List ℕ) (goals : Bool) → q .jobs ≤ 24 → Estimates K (entry base) → AllWait rows (k .conditions) base est 24 → Lists k q est L 228 → WaitsPut K (q .jobs) L M
+  pub sets-out : (base est L M N : List ℕ) (goals : Bool) → q .jobs ≤ 24 → Estimates K (entry base) → AllWait rows k base est 24 → Lists k q est L 228 → WaitsPut K (q .jobs) L M
       → LeadsPut l q 24 M N → Decides goals (FitIn rows (q .goals) 64) → SetsOut l q (record { tables = N; goals = goals })
   sets-out base est L M N goals few e w t p f g = record {
     searched = K;
@@ -123,5 +126,5 @@ module _ (l : Loaded) (q : Ask) (ok : InOrder (problem l q)) (rows : List ℕ) (
       -- the conditions of a job of the plan are pairwise reachable, so it waits for its estimate
       early : (bound : ℕ) (Q : Plan) → Valid K bound Q → (i : ℕ) → In K Q i → getD est i 0 ≤ Q i
       early bound Q v i h =
-          let fits : FitIn rows (getD (k .conditions) i 0) 64 = λ r m a u b. fit K order bound Q v (inRows rows) closed i h r u a b in
+          let fits : FitIn rows (jobAt k i .conditions) 64 = λ r m a u b. fit K order bound Q v (inRows rows) closed i h r u a b in
           omega (arith, w i (omega (arith, h .below)) .fit fits, never-early K order (entry base) e bound Q v i h)

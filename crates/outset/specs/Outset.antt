@@ -2,7 +2,7 @@
 -- Assumes nothing.
 use mathlib.Core.Path.{_≡_}
 use mathlib.Core.Logic.{_↔_}
-use mathlib.Core.Bool.{false}
+use mathlib.Core.Bool.{Bool, true, false, cond}
 use mathlib.Core.List.{List}
 use Prim.Native.Nat.{ℕ, _+_, _*_, _-_, _%_, _≤_, _<_, _^_}
 use lib.Dec.{T}
@@ -11,7 +11,8 @@ use Rattle.facts.specs.Facts.{has}
 use Rattle.rules.specs.Table.{Problem, InOrder}
 use Rattle.rules.specs.Plans.{Plan, interfere, Valid}
 use Rattle.rules.specs.Order.{NoPlan}
-use Rattle.tables.specs.Tables.{problem}
+use Rattle.tables.specs.Tables.{jobAt, problem}
+use Rattle.tables.specs.declared.Action.{Action}
 use Rattle.tables.specs.declared.Loaded.{Loaded}
 use Rattle.tables.specs.declared.Ask.{Ask}
 use Rattle.entries.specs.Entries.{entry}
@@ -24,9 +25,13 @@ use Rattle.outset.specs.declared.Outset.{Outset}
 
 -- ── words of jobs ──
 
--- job j is below n and has fact p in its word
-abbrev pub Among : (words : List ℕ) (n p j : ℕ) → Type 0
-Among words n p j = (j < n) × T (has (getD words j 0) p)
+-- what the job deletes, or, if so, what it adds
+abbrev pub effectOf : Action → (adds : Bool) → ℕ
+effectOf a adds = cond adds (a .additions) (a .deletions)
+
+-- j is a job of the table and deletes fact p, or, if so, adds it
+abbrev pub Among : Loaded → Ask → (adds : Bool) (p j : ℕ) → Type 0
+Among l q adds p j = (j < q .jobs) × T (has (effectOf (jobAt l j) adds) p)
 
 -- b is a job of the table that interferes with a
 abbrev pub Hit : Loaded → Ask → (a b : ℕ) → Type 0
@@ -42,12 +47,12 @@ pub record Upto (i n : ℕ) (A B : Type 0) : Type 0 where
 -- the word x at place i: conditions, goals, opening, adders, killers, durations, hits, estimates, and the count
 abbrev pub Stands : Loaded → Ask → (est : List ℕ) (i x : ℕ) → Type 0
 Stands l q est i x =
-    Upto i 24 (x ≡ getD (l .conditions) i 0)
+    Upto i 24 (x ≡ jobAt l i .conditions)
     (Upto i 25 (x ≡ q .goals)
     (Upto i 26 (x ≡ q .opening)
-    (Upto i 90 (Cols (Among (l .additions) (q .jobs) (i - 26)) (x % 2 ^ 32) 24)
-    (Upto i 154 (Cols (Among (l .deletions) (q .jobs) (i - 90)) (x % 2 ^ 32) 24)
-    (Upto i 178 (x % 2 ^ 32 ≡ getD (l .durations) (i - 154) 0)
+    (Upto i 90 (Cols (Among l q true (i - 26)) (x % 2 ^ 32) 24)
+    (Upto i 154 (Cols (Among l q false (i - 90)) (x % 2 ^ 32) 24)
+    (Upto i 178 (x % 2 ^ 32 ≡ jobAt l (i - 154) .duration)
     (Upto i 202 (Cols (Hit l q (i - 178)) (x % 2 ^ 32) 24)
     (Upto i 226 (x % 2 ^ 32 ≡ getD est (i - 202) 0)
     (x ≡ q .jobs))))))))
@@ -79,8 +84,8 @@ pub record Waits (rows : List ℕ) (c e x : ℕ) : Type 0 where
   pub unfit : (FitIn rows c 64 → ⊥) → x ≡ 65535
 
 -- the same of the first n jobs
-abbrev pub AllWait : (rows words base est : List ℕ) (n : ℕ) → Type 0
-AllWait rows words base est n = (j : ℕ) → j < n → Waits rows (getD words j 0) (getD base j 0) (getD est j 0)
+abbrev pub AllWait : (rows : List ℕ) → Loaded → (base est : List ℕ) (n : ℕ) → Type 0
+AllWait rows l base est n = (j : ℕ) → j < n → Waits rows (jobAt l j .conditions) (getD base j 0) (getD est j 0)
 
 -- ── the whole ──
 

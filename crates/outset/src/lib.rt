@@ -1,4 +1,5 @@
 // What a table sets out to the search: the lists it reads, and the state it begins from.
+ghost use mathlib.Core.Path.{_≡_};
 ghost use Prim.Native.Nat.{_≤_, _<_};
 ghost use Rattle.facts.specs.Facts.{Decides};
 ghost use Rattle.rules.specs.Table.{InOrder};
@@ -7,10 +8,11 @@ ghost use Rattle.states.specs.State.{Search};
 ghost use Rattle.cells.specs.View.{Says};
 ghost use Rattle.lent.specs.Lent.{Cols, Lent};
 ghost use Rattle.turns.specs.Checked.{Follower};
-ghost use Rattle.outset.specs.Outset.{Among, Hit, Stands, Lists, RowPut, WaitsPut, LeadsPut, Waits, AllWait, FitsAll, Planned, SetsOut};
+ghost use Rattle.outset.specs.Outset.{effectOf, Among, Hit, Stands, Lists, RowPut, WaitsPut, LeadsPut, Waits, AllWait, FitsAll, Planned, SetsOut};
 use cells::State;
 use lent::Tables;
 use reach::Pairs;
+use tables::Action;
 use tables::Ask;
 use tables::Loaded;
 
@@ -20,25 +22,35 @@ pub struct Outset {
     pub goals: bool,
 }
 
-// Job j is below n and has fact p in its word.
-fn job_has(words: [u64; 24], n: usize, j: usize, p: usize) -> bool
-    requires { ⌜ (j < 24) × (p < 64) ⌝ }
-    ensures { λ r. ⌜ Decides r (Among words n p j) ⌝ }
+// What the job deletes, or, if so, what it adds.
+fn effect(a: Action, adds: bool) -> u64
+    ensures { λ r. ⌜ r ≡ effectOf a adds ⌝ }
 {
-    if n <= j {
-        return false;
+    if adds {
+        return a.additions;
     }
-    facts::has(words[j], p)
+    a.deletions
 }
 
-// The jobs below n that have fact p.
-fn jobs_with(words: [u64; 24], n: usize, p: usize) -> u32
+// Job j is in the table and deletes fact p, or, if so, adds it.
+fn job_has(l: Loaded, q: Ask, adds: bool, j: usize, p: usize) -> bool
+    requires { ⌜ (j < 24) × (p < 64) ⌝ }
+    ensures { λ r. ⌜ Decides r (Among l q adds p j) ⌝ }
+{
+    if q.jobs <= j {
+        return false;
+    }
+    facts::has(effect(l.jobs[j], adds), p)
+}
+
+// The jobs that delete fact p, or, if so, add it.
+fn jobs_with(l: Loaded, q: Ask, adds: bool, p: usize) -> u32
     requires { ⌜ p < 64 ⌝ }
-    ensures { λ r. ⌜ Cols (Among words n p) r 24 ⌝ }
+    ensures { λ r. ⌜ Cols (Among l q adds p) r 24 ⌝ }
 {
     let mut w: u32 = 0;
     for j in 0..24 {
-        let hit = job_has(words, n, j, p);
+        let hit = job_has(l, q, adds, j, p);
         w = cells::with_if(w, j, hit);
     }
     w
@@ -52,7 +64,7 @@ fn job_hits(l: Loaded, q: Ask, a: usize, b: usize) -> bool
     if q.jobs <= b {
         return false;
     }
-    verdict::interferes(l, a, b)
+    interference::interferes(l, a, b)
 }
 
 // The jobs that interfere with a.
@@ -73,7 +85,8 @@ fn entry(l: Loaded, q: Ask, est: [u16; 24], i: usize) -> u64
     ensures { λ r. ⌜ Stands l q est i r ⌝ }
 {
     if i < 24 {
-        return l.conditions[i];
+        let a = l.jobs[i];
+        return a.conditions;
     }
     if i < 25 {
         return q.goals;
@@ -82,15 +95,14 @@ fn entry(l: Loaded, q: Ask, est: [u16; 24], i: usize) -> u64
         return q.opening;
     }
     if i < 90 {
-        let additions = l.additions;
-        return jobs_with(additions, q.jobs, i - 26) as u64;
+        return jobs_with(l, q, true, i - 26) as u64;
     }
     if i < 154 {
-        let deletions = l.deletions;
-        return jobs_with(deletions, q.jobs, i - 90) as u64;
+        return jobs_with(l, q, false, i - 90) as u64;
     }
     if i < 178 {
-        return l.durations[i - 154] as u64;
+        let a = l.jobs[i - 154];
+        return a.duration as u64;
     }
     if i < 202 {
         return hits_of(l, q, i - 178) as u64;
@@ -196,12 +208,13 @@ fn waits(s: Pairs, c: u64, est: u16) -> u16
 }
 
 // The same for all jobs.
-fn all_wait(s: Pairs, words: [u64; 24], est: [u16; 24]) -> [u16; 24]
-    ensures { λ r. ⌜ AllWait (s .rows) words est r 24 ⌝ }
+fn all_wait(s: Pairs, l: Loaded, est: [u16; 24]) -> [u16; 24]
+    ensures { λ r. ⌜ AllWait (s .rows) l est r 24 ⌝ }
 {
     let mut t = [0u16; 24];
     for j in 0..24 {
-        t[j] = waits(s, words[j], est[j]);
+        let a = l.jobs[j];
+        t[j] = waits(s, a.conditions, est[j]);
     }
     t
 }
@@ -214,8 +227,7 @@ pub fn set_out(l: Loaded, q: Ask) -> Outset
     let s = reach::reachable(l, q);
     let goals = reach::fits(s, q.goals);
     let table = reach::e_table(l, q.jobs, s);
-    let words = table.conditions;
-    let est = all_wait(s, words, estimates::estimate_all(table, q));
+    let est = all_wait(s, table, estimates::estimate_all(table, q));
     let mut tables = listed(table, q, est);
     put_waits(&mut tables, table, q);
     put_leads(&mut tables, l, q);

@@ -22,7 +22,7 @@ use Rattle.page.proofs.Pages.{said-any}
 
 shows-only : (l : Loaded) (q : Ask) (t u : List ℕ) → Shows l q t → Shows l q u → t ≡ u
 shows-only l q t u x y =
-    let o = least-bound-only l q (replicate 24 65535) (x .a) (y .a) (x .ys) (y .ys) (x .bounds) (y .bounds) in
+    let o = least-bound-only l q (replicate 24 65535) (x .ys) (y .ys) (x .a) (y .a) (x .bounds) (y .bounds) in
     x .shows ∙ ap₂ (λ (a : Answer) (s : List ℕ). said a (planText (problem l q) (a .value) (starts s))) (o .0) (o .1) ∙ sym (y .shows)
 
 prints-only : (file t u : List ℕ) → Prints file t → Prints file u → t ≡ u

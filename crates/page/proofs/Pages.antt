@@ -9,17 +9,17 @@ use lib.Dec.{ltb, ltb→lt, lt→ltb}
 use lib.ListN.{length, getD, replicate}
 use Rattle.facts.proofs.Bools.{at-most}
 use Rattle.rules.specs.Refusals.{Verdict, accepted, refused}
-use Rattle.rules.specs.Table.{boundCheck, InOrder}
+use Rattle.rules.specs.Table.{InOrder}
 use Rattle.rules.specs.Plans.{starts}
 use Rattle.rules.specs.Pairs.{inOrder}
-use Rattle.rules.proofs.Refused.{if-hit, if-pass, goes-on}
+use Rattle.rules.proofs.Refused.{if-hit, if-pass}
 use Rattle.tables.specs.declared.Loaded.{Loaded}
 use Rattle.tables.specs.declared.Ask.{Ask}
 use Rattle.tables.specs.declared.Answer.{Answer}
-use Rattle.tables.specs.Tables.{problem, answer, callChecks, changed}
+use Rattle.tables.specs.Tables.{problem, answer, changed}
 use Rattle.tables.proofs.Lent.{filled-at}
-use Rattle.tables.proofs.Calls.{call-checks, call-passed, long-enough, call-order}
-use Rattle.verdict.specs.Offered.{Given}
+use Rattle.tables.proofs.Calls.{cleared}
+use Rattle.verdict.specs.Steps.{Given}
 use Rattle.bindings.specs.Bindings.{written}
 use Rattle.planning.specs.Planning.{BoundsWithin}
 use Rattle.planning.proofs.Found.{bound-found}
@@ -52,13 +52,10 @@ plan-pairs ps old {bytes} {n} {at} {r} {xs} {ys} e w l y =
 -- ── a table ──
 
 -- where the least bound is given, the table is in order and the starts are enough
-pub ready : (l : Loaded) (q : Ask) (xs ys : List ℕ) (r : Answer) → length ys ≡ length xs → BoundsWithin l q xs r ys → r .number ≡ 0 → Given q ys × InOrder (problem l q)
-ready l q xs ys r n b z =
-    let short = ltb (length ys) (q .jobs) in
-    let all : callChecks short l q (boundCheck (q .bound) accepted) ≡ accepted =
-    ap (λ (k : ℕ). callChecks (ltb k (q .jobs)) l q (boundCheck (q .bound) accepted)) n ∙ bound-found l q xs r ys b z .checks in
-    let e : callChecks short l q accepted ≡ accepted = goes-on (callChecks short l q) (call-checks short l q) (boundCheck (q .bound) accepted) all accepted in
-    ((call-passed short l q e .count, at-most (length ys) (q .jobs) (long-enough short l q e)), call-order short l q e)
+pub ready : (l : Loaded) (q : Ask) (old new : List ℕ) (r : Answer) → length new ≡ length old → BoundsWithin l q old new r → r .number ≡ 0 → Given q new × InOrder (problem l q)
+ready l q old new r n b z =
+    let c = cleared (ltb (length old) (q .jobs)) (q .bound) l q (bound-found l q old new r b z .checks) in
+    ((c .few, omega (arith, n, at-most (length old) (q .jobs) (c .room))), c .order)
 
 said-no : (a : Answer) (text : List ℕ) → (a .number ≡ 0 → ⊥) → refusedLine (a .number) (a .place) ≡ said a text
 said-no a text n = simp (ne-eqb _ _ n)
@@ -70,7 +67,7 @@ said-any a t u n = sym (said-no a t n) ∙ said-no a u n
 said-yes : (a : Answer) (text : List ℕ) → a .number ≡ 0 → text ≡ said a text
 said-yes a text z = simp (eq-eqb _ _ z)
 
-module _ (l : Loaded) (q : Ask) (a : Answer) (ys : List ℕ) (b : BoundsWithin l q (replicate 24 65535) a ys) where
+module _ (l : Loaded) (q : Ask) (a : Answer) (ys : List ℕ) (b : BoundsWithin l q (replicate 24 65535) ys a) where
   pub shows-no : (a .number ≡ 0 → ⊥) → Shows l q (refusedLine (a .number) (a .place))
   shows-no n = record { a = a; ys = ys; bounds = b; shows = said-no a _ n }
 

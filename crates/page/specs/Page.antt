@@ -81,7 +81,7 @@ said a text = cond (eqb (a .number) 0) text (refusedLine (a .number) (a .place))
 pub record Shows (l : Loaded) (q : Ask) (text : List ℕ) : Type 0 where
   pub a : Answer
   pub ys : List ℕ
-  pub bounds : BoundsWithin l q (replicate 24 65535) a ys
+  pub bounds : BoundsWithin l q (replicate 24 65535) ys a
   pub shows : text ≡ said a (planText (problem l q) (a .value) (starts ys))
 
 -- what is printed of a file: the refusal of the reader, which is lent 255 records, or what is printed of the table read

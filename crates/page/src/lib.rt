@@ -7,8 +7,8 @@ ghost use lib.ListN.{length, getD};
 ghost use Rattle.rules.specs.Plans.{starts, finish};
 ghost use Rattle.rules.specs.Pairs.{pairBytes};
 ghost use Rattle.rules.specs.Table.{InOrder};
-ghost use Rattle.tables.specs.Tables.{problem};
-ghost use Rattle.verdict.specs.Offered.{Given};
+ghost use Rattle.tables.specs.Tables.{jobAt, problem};
+ghost use Rattle.verdict.specs.Steps.{Given};
 ghost use Rattle.page.specs.Page.{digit, decimal, numberThen, refusedLine, leastLine, jobLine, textIf, jobsAt, jobLines, pairLine, pairLines, planText, Shows, Pages};
 ghost use Rattle.page.specs.Lays.{Lays, LaysSome};
 use tables::Answer;
@@ -107,19 +107,15 @@ fn put_pair(a: u8, b: u8, at: usize, out: &mut [u8]) -> usize
 // The line of job j, where it starts at t.
 fn put_start(l: Loaded, s: &[u16], t: usize, j: usize, at: usize, out: &mut [u8]) -> usize
     requires { ⌜ (j < 24) × (j < length (now s)) × (at + 18 ≤ length (now out)) ⌝ }
-    ensures { λ r. ⌜ Lays 18 (textIf (eqb (starts (now (s .entry)) j) t) (jobLine (starts (now (s .entry)) j) (starts (now (s .entry)) j + getD (l .durations) j 0) j)) at (now (out .entry)) (now (out .exit)) r ⌝ }
+    ensures { λ r. ⌜ Lays 18 (textIf (eqb (starts (now (s .entry)) j) t) (jobLine (starts (now (s .entry)) j) (starts (now (s .entry)) j + jobAt l j .duration) j)) at (now (out .entry)) (now (out .exit)) r ⌝ }
 {
     let start = entries::wide(s[j]);
     if start as usize != t {
         return at;
     }
-    put_job(
-        start,
-        start + entries::wide(l.durations[j]),
-        j as u32,
-        at,
-        out,
-    )
+    let a = l.jobs[j];
+    let end = start + entries::wide(a.duration);
+    put_job(start, end, j as u32, at, out)
 }
 
 // The jobs that start at t, by number.

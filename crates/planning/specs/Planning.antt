@@ -2,42 +2,24 @@
 -- Assumes nothing.
 use mathlib.Core.Path.{_≡_}
 use mathlib.Core.List.{List}
-use Prim.Native.Nat.{ℕ, _≤_}
+use Prim.Native.Nat.{ℕ}
 use lib.Dec.{ltb}
 use lib.ListN.{length}
-use Rattle.rules.specs.Refusals.{Verdict, accepted}
-use Rattle.rules.specs.Table.{boundCheck, InOrder}
-use Rattle.rules.specs.Plans.{Plan}
+use Rattle.rules.specs.Refusals.{Verdict}
 use Rattle.rules.specs.Order.{Planned, Bounded}
-use Rattle.tables.specs.Tables.{problem, answer, callChecks, filled, changed}
 use Rattle.tables.specs.declared.Loaded.{Loaded}
 use Rattle.tables.specs.declared.Ask.{Ask}
 use Rattle.tables.specs.declared.Answer.{Answer}
+use Rattle.tables.specs.Tables.{problem, callChecks, Fills}
 
 -- checks 3 to 9, where `room` starts are lent: one a job
 abbrev pub planningChecks : Loaded → Ask → (room : ℕ) → Verdict → Verdict
-planningChecks l q room next = callChecks (ltb room (q .jobs)) l q (boundCheck (q .bound) next)
+planningChecks l q room next = callChecks (ltb room (q .jobs)) (q .bound) l q next
 
--- what they give
-pub record Plannable (l : Loaded) (q : Ask) (room : ℕ) : Type 0 where
-  pub few : q .jobs ≤ 24
-  pub fits : q .jobs ≤ room
-  pub order : InOrder (problem l q)
-  pub short : q .bound ≤ 2880
+-- behind the checks the lent memory is filled with the first plan within the bound, or 10 is said
+abbrev pub PlansWithin : Loaded → Ask → (old new : List ℕ) → Answer → Type 0
+PlansWithin l q old new r = Fills (planningChecks l q (length old)) (λ v value s. (value ≡ 0) × Planned (problem l q) (q .bound) v s) 0 (q .jobs) old new r
 
--- behind the checks v is said of the plan s; the answer r says it, and the starts ys are filled with s where it accepts
-pub record PlansWithin (l : Loaded) (q : Ask) (xs : List ℕ) (r : Answer) (ys : List ℕ) : Type 0 where
-  pub v : Verdict
-  pub s : Plan
-  pub planned : planningChecks l q (length xs) accepted ≡ accepted → Planned (problem l q) (q .bound) v s
-  pub says : r ≡ answer (planningChecks l q (length xs) v) 0 0
-  pub leaves : ys ≡ changed (planningChecks l q (length xs) v) (filled s (q .jobs) xs) xs
-
--- the same of the least bound b, which is returned; 65,535 with any refusal
-pub record BoundsWithin (l : Loaded) (q : Ask) (xs : List ℕ) (r : Answer) (ys : List ℕ) : Type 0 where
-  pub v : Verdict
-  pub b : ℕ
-  pub s : Plan
-  pub bounded : planningChecks l q (length xs) accepted ≡ accepted → Bounded (problem l q) (q .bound) v b s
-  pub says : r ≡ answer (planningChecks l q (length xs) v) b 65535
-  pub leaves : ys ≡ changed (planningChecks l q (length xs) v) (filled s (q .jobs) xs) xs
+-- behind the checks the least bound is returned, with its first plan in the lent memory; 65,535 with any refusal
+abbrev pub BoundsWithin : Loaded → Ask → (old new : List ℕ) → Answer → Type 0
+BoundsWithin l q old new r = Fills (planningChecks l q (length old)) (Bounded (problem l q) (q .bound)) 65535 (q .jobs) old new r

@@ -5,12 +5,11 @@ ghost use Prim.Native.Nat.{_+_, _≤_, _<_, min};
 ghost use lib.ListN.{getD, length};
 ghost use Rattle.rules.specs.Table.{Problem};
 ghost use Rattle.rules.proofs.Sums.{sum};
-ghost use Rattle.rules.specs.Refusals.{accepted};
-ghost use Rattle.tables.specs.Tables.{problem, Judges};
+ghost use Rattle.tables.specs.Tables.{jobAt, problem};
 ghost use Rattle.lent.specs.Lent.{Listed};
 ghost use Rattle.leaves.specs.Leaf.{planOf};
 ghost use Rattle.planning.specs.Derived.{InReach, PlanAt, Served, NoneBelow, SomeAt, AnyAt, FirstAt, Hopeless, Later, LastEnd, Probes, LowEnd, Held, Rises, Halves, Narrows, LeastOf};
-ghost use Rattle.planning.specs.Planning.{planningChecks, Plannable, PlansWithin, BoundsWithin};
+ghost use Rattle.planning.specs.Planning.{PlansWithin, BoundsWithin};
 use lent::Tables;
 use tables::Answer;
 use tables::Ask;
@@ -62,11 +61,12 @@ fn hopeless(t: &mut Tables, bound: u16) -> bool
 // The sum of the durations of the jobs below n.
 fn all_durations(l: Loaded, n: usize) -> u32
     requires { ⌜ n ≤ 24 ⌝ }
-    ensures { λ r. ⌜ r ≡ sum (λ a. getD (l .durations) a 0 + 0) n ⌝ }
+    ensures { λ r. ⌜ r ≡ sum (λ a. jobAt l a .duration + 0) n ⌝ }
 {
     let mut all: u32 = 0;
     for j in 0..n {
-        all = all + wide(l.durations[j]);
+        let a = l.jobs[j];
+        all = all + wide(a.duration);
     }
     all
 }
@@ -74,7 +74,7 @@ fn all_durations(l: Loaded, n: usize) -> u32
 // The bound, or the sum of all durations where that is less: more time changes nothing.
 fn enough(l: Loaded, q: Ask) -> u16
     requires { ⌜ q .jobs ≤ 24 ⌝ }
-    ensures { λ r. ⌜ r ≡ min (q .bound) (sum (λ a. getD (l .durations) a 0 + 0) (q .jobs)) ⌝ }
+    ensures { λ r. ⌜ r ≡ min (q .bound) (sum (λ a. jobAt l a .duration + 0) (q .jobs)) ⌝ }
 {
     let all = all_durations(l, q.jobs);
     let bound = q.bound;
@@ -251,26 +251,11 @@ fn least_within(l: Loaded, q: Ask, top: u16, out: &mut [u16; 24]) -> u16
     least_of(&mut t, top, out)
 }
 
-// Checks 3 to 9, where `room` starts are lent.
-fn planning_fault(l: Loaded, q: Ask, room: usize) -> Answer
-    ensures { λ r. ⌜ Judges (planningChecks l q room accepted) (Plannable l q room) r ⌝ }
-{
-    let n = q.jobs;
-    let fault = tables::call_fault(l, q, room < n);
-    if fault.number != 0 {
-        return fault;
-    }
-    if 2880 < q.bound {
-        return tables::refuse(9, 0, 0);
-    }
-    tables::done(0)
-}
-
 // The first valid plan within the bound, in the stated order.
 pub fn plan_within(l: Loaded, q: Ask, out: &mut [u16]) -> Answer
-    ensures { λ r. ⌜ PlansWithin l q (now (out .entry)) r (now (out .exit)) ⌝ }
+    ensures { λ r. ⌜ PlansWithin l q (now (out .entry)) (now (out .exit)) r ⌝ }
 {
-    let fault = planning_fault(l, q, out.len());
+    let fault = tables::call_fault(l, q, out.len() < q.jobs, q.bound);
     if fault.number != 0 {
         return fault;
     }
@@ -285,9 +270,9 @@ pub fn plan_within(l: Loaded, q: Ask, out: &mut [u16]) -> Answer
 
 // The least bound, with the first plan at it.
 pub fn least_bound(l: Loaded, q: Ask, out: &mut [u16]) -> Answer
-    ensures { λ r. ⌜ BoundsWithin l q (now (out .entry)) r (now (out .exit)) ⌝ }
+    ensures { λ r. ⌜ BoundsWithin l q (now (out .entry)) (now (out .exit)) r ⌝ }
 {
-    let fault = planning_fault(l, q, out.len());
+    let fault = tables::call_fault(l, q, out.len() < q.jobs, q.bound);
     if fault.number != 0 {
         return tables::refuse(fault.number, fault.place, 65535);
     }

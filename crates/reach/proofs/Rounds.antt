@@ -12,10 +12,9 @@ use Rattle.facts.specs.Facts.{has, Covers}
 use Rattle.facts.proofs.Bools.{and-l, and-r, and-of, below-suc}
 use Rattle.facts.proofs.Sets.{has-zero}
 use Rattle.rules.specs.Table.{Problem, InOrder, adds}
-use Rattle.tables.specs.declared.Loaded.{Loaded}
 use Rattle.rules.proofs.Sums.{sum, sum-le, sum-falls}
 use Rattle.reach.specs.Reach.{PairSet, Fit, Closed, Reachable, Exact}
-use Rattle.reach.specs.Rows.{inRows, FitIn, Seen, Found, Looked, Sym, Sound, Within, Of, ClosedAt, Rounds}
+use Rattle.reach.specs.Rows.{inRows, FitIn, Seen, Found, Looked, Sym, Sound, Within, ClosedAt, Rounds}
 use Rattle.reach.proofs.Laws.{in-range}
 
 -- the pairs of facts below 64
@@ -130,14 +129,6 @@ module _ (P : Problem) (ok : InOrder P) where
       closes : Sym old → Within new old → (i : ℕ) → (i < k) ⊎ (i ≡ k) → ClosedAt P (inRows old) i
       closes y w i (inl m) = r .closes y (λ p q h. w p q (g .more p q h)) i m
       closes y w i (inr m) = rw m (look-closes k l cur new (r .size) g old y (r .more) w)
-
-  -- the same where the words are read from a table
-  pub round-at : (l : Loaded) → Of l P → (k : ℕ) (old cur new : List ℕ) → k < P .count → Rounds P k old cur → Looked cur (getD (l .conditions) k 0) (getD (l .additions) k 0) (getD (l .deletions) k 0) new → Rounds P (k + 1) old new
-  round-at l o k old cur new m r g =
-      round-more k old cur new m r
-      (subst (λ (c : ℕ). Looked cur c (P .additions k) (P .deletions k) new) (sym (o .conditions k))
-      (subst (λ (a : ℕ). Looked cur (getD (l .conditions) k 0) a (P .deletions k) new) (sym (o .additions k))
-      (subst (λ (d : ℕ). Looked cur (getD (l .conditions) k 0) (getD (l .additions) k 0) d new) (sym (o .deletions k)) g)))
 
   -- ── until nothing is found ──
 

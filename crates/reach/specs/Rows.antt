@@ -9,7 +9,9 @@ use lib.Dec.{T}
 use lib.ListN.{length, getD}
 use Rattle.facts.specs.Facts.{has, Word, Covers}
 use Rattle.rules.specs.Table.{Problem, needs, adds, deletes}
+use Rattle.tables.specs.declared.Action.{Action}
 use Rattle.tables.specs.declared.Loaded.{Loaded}
+use Rattle.tables.specs.Tables.{jobAt}
 use Rattle.reach.specs.Reach.{PairSet, Fit, Reachable}
 
 -- bit q of row p
@@ -64,12 +66,6 @@ Sound P rows = (p q : ℕ) → T (inRows rows p q) → Reachable P p q
 abbrev pub Within : List ℕ → List ℕ → Type 0
 Within new old = (p q : ℕ) → T (inRows new p q) → T (inRows old p q)
 
--- the table has the problem's words
-pub record Of (l : Loaded) (P : Problem) : Type 0 where
-  pub conditions : (i : ℕ) → P .conditions i ≡ getD (l .conditions) i 0
-  pub additions : (i : ℕ) → P .additions i ≡ getD (l .additions) i 0
-  pub deletions : (i : ℕ) → P .deletions i ≡ getD (l .deletions) i 0
-
 -- the rules hold of job i
 pub record ClosedAt (P : Problem) (S : PairSet) (i : ℕ) : Type 0 where
   pub both : (p q : ℕ) → Fit P S i → adds P i p → adds P i q → T (S p q)
@@ -93,17 +89,18 @@ Barred rows w p = T (inRows rows p p) × (Covers (getD rows p 0) w → ⊥)
 abbrev pub Gone : List ℕ → (c a d p : ℕ) → Type 0
 Gone rows c a d p = T (has d p) ⊎ (FitIn rows c 64 × (Barred rows a p ⊎ (Barred rows c p × (T (has a p) → ⊥))))
 
--- the word r holds what such a job takes away, and no other fact
-pub record EWord (rows : List ℕ) (c a d r : ℕ) : Type 0 where
-  pub gone : (p : ℕ) → T (has r p) ↔ Gone rows c a d p
+-- a job with other deletions
+abbrev pub deleting : Action → ℕ → Action
+deleting a w = record { conditions = a .conditions; additions = a .additions; deletions = w; duration = a .duration }
 
--- the table with other deletions
-abbrev pub withWords : Loaded → List ℕ → Loaded
-withWords l x = record { conditions = l .conditions; additions = l .additions; deletions = x; durations = l .durations; lent = l .lent }
+-- b is the job a, but deletes what a takes away
+pub record EJob (rows : List ℕ) (a b : Action) : Type 0 where
+  pub rest : b ≡ deleting a (b .deletions)
+  pub gone : (p : ℕ) → T (has (b .deletions) p) ↔ Gone rows (a .conditions) (a .additions) (a .deletions) p
 
--- the jobs below n of the table r delete what those of l take away; else r is l
+-- the jobs below n of the table r are those of l, but delete what they take away; else r is l
 pub record EDone (rows : List ℕ) (l : Loaded) (n : ℕ) (r : Loaded) : Type 0 where
-  pub rest : r ≡ withWords l (r .deletions)
-  pub size : length (r .deletions) ≡ 24
-  pub words : (i : ℕ) → i < n → EWord rows (getD (l .conditions) i 0) (getD (l .additions) i 0) (getD (l .deletions) i 0) (getD (r .deletions) i 0)
-  pub past : (i : ℕ) → n ≤ i → getD (r .deletions) i 0 ≡ getD (l .deletions) i 0
+  pub size : length (r .jobs) ≡ 24
+  pub lent : r .lent ≡ l .lent
+  pub below : (i : ℕ) → i < n → EJob rows (jobAt l i) (jobAt r i)
+  pub past : (i : ℕ) → n ≤ i → jobAt r i ≡ jobAt l i

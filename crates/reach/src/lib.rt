@@ -5,10 +5,11 @@ ghost use Prim.Native.Nat.{ℕ, _≤_, _<_};
 ghost use lib.Dec.{T, eqb};
 ghost use lib.ListN.{getD, set, length, replicate};
 ghost use Rattle.facts.specs.Facts.{has, Word, Covers, Decides};
-ghost use Rattle.rules.specs.Table.{Problem, InOrder};
+ghost use Rattle.rules.specs.Table.{InOrder};
 ghost use Rattle.tables.specs.Tables.{problem};
 ghost use Rattle.reach.specs.Reach.{Exact};
-ghost use Rattle.reach.specs.Rows.{inRows, FitIn, Seen, Beside, more, Grown, Looked, Of, Rounds, Barred, EWord, withWords, EDone};
+ghost use Rattle.reach.specs.Rows.{inRows, FitIn, Seen, Beside, more, Grown, Looked, Rounds, Barred, EJob, EDone};
+use tables::Action;
 use tables::Ask;
 use tables::Loaded;
 
@@ -135,13 +136,15 @@ fn look(s: Pairs, c: u64, a: u64, d: u64) -> Pairs
 }
 
 // The pairs that the jobs give, one after the other.
-fn round(l: Loaded, jobs: usize, s: Pairs) -> Pairs
-    requires { ⌜ jobs ≤ 24 ⌝ }
-    ensures { λ r. ⌜ ((P : Problem) → Of l P → InOrder P → jobs ≤ P .count → Rounds P jobs (s .rows) (r .rows)) ⌝ }
+fn round(l: Loaded, q: Ask, s: Pairs) -> Pairs
+    requires { ⌜ (q .jobs ≤ 24) × InOrder (problem l q) ⌝ }
+    ensures { λ r. ⌜ Rounds (problem l q) (q .jobs) (s .rows) (r .rows) ⌝ }
 {
     let mut t = s;
-    for i in 0..jobs {
-        t = look(t, l.conditions[i], l.additions[i], l.deletions[i]);
+    let n = q.jobs;
+    for i in 0..n {
+        let a = l.jobs[i];
+        t = look(t, a.conditions, a.additions, a.deletions);
     }
     t
 }
@@ -173,7 +176,7 @@ pub fn reachable(l: Loaded, q: Ask) -> Pairs
 {
     let mut s = opened(q.opening);
     loop {
-        let t = round(l, q.jobs, s);
+        let t = round(l, q, s);
         if within(t, s) {
             return s;
         }
@@ -189,25 +192,21 @@ fn barred(s: Pairs, w: u64) -> u64
     facts::after(beside(s, 0, 0), 0, beside(s, w, 0))
 }
 
-// What a job e-deletes.
-fn e_deletions(s: Pairs, c: u64, a: u64, d: u64) -> u64
-    ensures { λ r. ⌜ EWord (s .rows) c a d r ⌝ }
+// The job, but it deletes what it e-deletes.
+fn e_job(s: Pairs, a: Action) -> Action
+    ensures { λ r. ⌜ EJob (s .rows) a r ⌝ }
 {
-    if !fits(s, c) {
-        return d;
+    if !fits(s, a.conditions) {
+        return a;
     }
-    let needing = facts::after(barred(s, c), 0, a);
-    union(d, union(barred(s, a), needing))
-}
-
-// Another word of deletions for job i.
-fn with_deletions(l: Loaded, i: usize, w: u64) -> Loaded
-    requires { ⌜ i < 24 ⌝ }
-    ensures { λ r. ⌜ r ≡ withWords l (set (l .deletions) i w) ⌝ }
-{
-    let mut t = l;
-    t.deletions[i] = w;
-    t
+    let adding = barred(s, a.additions);
+    let needing = facts::after(barred(s, a.conditions), 0, a.additions);
+    Action {
+        conditions: a.conditions,
+        additions: a.additions,
+        deletions: union(a.deletions, union(adding, needing)),
+        duration: a.duration,
+    }
 }
 
 // The table whose jobs delete what they e-delete by these pairs: it has the same valid plans.
@@ -217,8 +216,7 @@ pub fn e_table(l: Loaded, jobs: usize, s: Pairs) -> Loaded
 {
     let mut t = l;
     for i in 0..jobs {
-        let w = e_deletions(s, l.conditions[i], l.additions[i], l.deletions[i]);
-        t = with_deletions(t, i, w);
+        t = tables::with_job(t, i, e_job(s, l.jobs[i]));
     }
     t
 }

@@ -1,26 +1,29 @@
--- The checks of settling, one behind another.
+-- The checks of settling, one behind another, and what they leave.
 -- Assumes nothing.
-use mathlib.Core.Path.{_≡_, ap, _∙_}
+use mathlib.Core.Path.{_≡_, _∙_, subst}
 use mathlib.Core.Bool.{Bool, not, _&&_, _||_}
 use mathlib.Core.List.{List}
-use Prim.Native.Nat.{ℕ, _/_, _≤_, _<_}
+use Prim.Native.Nat.{ℕ, _/_, _≤_}
 use native.Mathlib.Omega.{arith}
-use lib.Dec.{T, ltb, ltb→lt, lt→ltb}
+use lib.Dec.{T, ltb}
 use lib.ListN.{length}
 use Rattle.facts.specs.Facts.{has}
-use Rattle.facts.proofs.Bools.{or-l, or-r, at-most}
-use Rattle.rules.specs.Refusals.{Verdict, accepted, refused}
-use Rattle.rules.specs.Table.{Problem, InOrder, boundCheck, strays}
+use Rattle.facts.proofs.Bools.{or-l, or-r, and-l, and-r, certain, at-most}
+use Rattle.facts.proofs.Least.{any-of}
+use Rattle.rules.specs.Refusals.{Verdict, accepted}
+use Rattle.rules.specs.Table.{Problem, strays}
 use Rattle.rules.specs.Settling.{settleChecks}
-use Rattle.rules.proofs.Refused.{Checks, if-checks, at-checks, then-checks, bound-checks, if-hit, if-pass, stopped, went-on}
+use Rattle.rules.proofs.Refused.{Checks, if-checks, at-checks, then-checks, if-zero, at-zero, both}
+use Rattle.rules.proofs.Checked.{below}
 use Rattle.tables.specs.declared.Loaded.{Loaded}
 use Rattle.tables.specs.declared.Ask.{Ask}
 use Rattle.tables.specs.declared.Answer.{Answer}
-use Rattle.tables.specs.Tables.{problem, answer, callChecks, Judges}
-use Rattle.tables.proofs.Laws.{said, judges-no, numbered}
-use Rattle.tables.proofs.Calls.{call-checks, accepts-by, long-enough, call-passed}
-use Rattle.times.specs.Times.{first, second, Ready}
-use Rattle.settle.specs.Settle.{checks, Sound}
+use Rattle.tables.specs.Tables.{problem, answer, callChecks, Judges, Cleared}
+use Rattle.tables.proofs.Laws.{said}
+use Rattle.tables.proofs.Calls.{call-checks, cleared, accepts-by, stops-there, goes-behind}
+use Rattle.times.specs.Times.{first, second}
+use Rattle.settle.specs.Settle.{settlingChecks}
+use Rattle.settle.specs.Steps.{Settleable}
 
 settle-checks : (P : Problem) (set : ℕ) (first second : ℕ → ℕ) (pairs : ℕ) → Checks (settleChecks P set first second pairs)
 unfolding settleChecks
@@ -33,52 +36,54 @@ module _ (l : Loaded) (q : Ask) (bytes : List ℕ) (room : ℕ) where
   abbrev pub short : Bool
   short = ltb room (q .jobs) || ltb (length bytes / 2) (q .pairs)
 
-  -- checks 9 and 15
+  -- check 15
   abbrev pub later : Verdict → Verdict
-  later next = boundCheck (q .bound) (settleChecks (problem l q) (q .set) (first bytes) (second bytes) (q .pairs) next)
+  later next = settleChecks (problem l q) (q .set) (first bytes) (second bytes) (q .pairs) next
 
-  pub all-checks : Checks (checks l q bytes room)
-  all-checks = then-checks (call-checks short l q) (then-checks (bound-checks (q .bound)) (settle-checks (problem l q) (q .set) (first bytes) (second bytes) (q .pairs)))
+  pub all-checks : Checks (settlingChecks l q bytes room)
+  all-checks = then-checks (call-checks short (q .bound) l q) (settle-checks (problem l q) (q .set) (first bytes) (second bytes) (q .pairs))
 
-  -- the answer of checks 3 to 8
-  module _ {s : Bool} (e : s ≡ short) {f : Answer} (j : Judges (callChecks s l q accepted) (InOrder (problem l q)) f) where
-    told : f ≡ answer (callChecks short l q accepted) 0 0
-    told = j .says ∙ ap (λ (b : Bool). answer (callChecks b l q accepted) 0 0) e
+  -- a pair names a job outside the set
+  outside : ℕ → Bool
+  outside k = not (has (q .set) (first bytes k) && has (q .set) (second bytes k))
 
-    pub call-refused : {B : Type 0} → (f .number ≡ 0 → ⊥) → Judges (checks l q bytes room accepted) B f
-    call-refused n = record {
-      says = told ∙ said 0 0 (stopped (callChecks short l q) (call-checks short l q) (λ z. n (numbered 0 0 told ∙ z)) (later accepted));
-      order = λ z. absurd (n z);
-    }
+  -- where all checks accept
+  pub settleable : settlingChecks l q bytes room accepted ≡ accepted → Settleable l q bytes room
+  unfolding settleChecks outside
+  settleable e =
+      let d = both (later accepted) (call-checks short (q .bound) l q) e in
+      let c = cleared short (q .bound) l q (d .0) in
+      let a = if-zero (strays (q .jobs) (q .set)) 15 601 _ (omega arith) (d .1) in
+      let b = if-zero (ltb 600 (q .pairs)) 15 600 _ (omega arith) (a .1) in
+      let k = at-zero outside (q .pairs) 15 _ (omega arith) (b .1) in
+      record {
+        clear = c;
+        ready = record {
+          few = c .few;
+          lent = at-most (length bytes / 2) (q .pairs) (λ x. c .room (or-r (ltb room (q .jobs)) _ x));
+          named = below (q .jobs) (q .set) (a .0);
+          paired = λ i h. (let p = certain (has (q .set) (first bytes i) && has (q .set) (second bytes i)) (λ x. k .0 (any-of outside (q .pairs) i h x)) in
+              (and-l (has (q .set) (first bytes i)) _ p, and-r (has (q .set) (first bytes i)) _ p));
+        };
+        wide = at-most room (q .jobs) (λ x. c .room (or-l (ltb room (q .jobs)) _ x));
+      }
+
+  -- an answer that says what the checks say
+  judged : {r : Answer} → r ≡ answer (settlingChecks l q bytes room accepted) 0 0 → Judges (settlingChecks l q bytes room accepted) (Settleable l q bytes room) r
+  judged e = record { says = e; order = λ z. settleable (accepts-by all-checks e z) }
+
+  -- behind the answer of checks 3 to 9
+  module _ {s : Bool} {f : Answer} (is : s ≡ short) (j : Judges (callChecks s (q .bound) l q accepted) (Cleared s (q .bound) l q) f) where
+    told : f ≡ answer (callChecks short (q .bound) l q accepted) 0 0
+    told = subst (λ (b : Bool). f ≡ answer (callChecks b (q .bound) l q accepted) 0 0) is (j .says)
+
+    pub call-refused : (f .number ≡ 0 → ⊥) → Judges (settlingChecks l q bytes room accepted) (Settleable l q bytes room) f
+    call-refused n = judged (stops-there (call-checks short (q .bound) l q) told n (later accepted))
 
     module _ (z : f .number ≡ 0) where
-      passed-call : callChecks short l q accepted ≡ accepted
-      passed-call = accepts-by (call-checks short l q) told z
+      pub lent : (q .jobs ≤ 24) × (q .pairs ≤ length bytes / 2)
+      lent = let c = cleared short (q .bound) l q (accepts-by (call-checks short (q .bound) l q) told z) in
+          (c .few, at-most (length bytes / 2) (q .pairs) (λ x. c .room (or-r (ltb room (q .jobs)) _ x)))
 
-      on : (next : Verdict) → callChecks short l q next ≡ next
-      on = went-on (callChecks short l q) (call-checks short l q) (ap (λ (v : Verdict). v .number) passed-call)
-
-      long : T short → ⊥
-      long = long-enough short l q passed-call
-
-      pub few : q .jobs ≤ 24
-      few = call-passed short l q passed-call .count
-
-      pub lent : q .pairs ≤ length bytes / 2
-      lent = at-most (length bytes / 2) (q .pairs) (λ x. long (or-r (ltb room (q .jobs)) _ x))
-
-      pub bound-refused : {B : Type 0} {r : Answer} → r ≡ answer (refused 9 0) 0 0 → 2880 < q .bound → Judges (checks l q bytes room accepted) B r
-      unfolding boundCheck
-      bound-refused h b = judges-no h (on (later accepted) ∙ if-hit (ltb 2880 (q .bound)) 9 0 _ (lt→ltb 2880 (q .bound) b)) (omega arith)
-
-      pub pairs-judged : {r : Answer} → q .bound ≤ 2880 → Judges (settleChecks (problem l q) (q .set) (first bytes) (second bytes) (q .pairs) accepted) (Ready q bytes) r
-          → Judges (checks l q bytes room accepted) (Sound l q bytes room) r
-      unfolding boundCheck
-      pairs-judged b g = record {
-        says = g .says ∙ said 0 0 (on (later accepted) ∙ if-pass (ltb 2880 (q .bound)) 9 0 _ (λ x. omega (arith, ltb→lt 2880 (q .bound) x)));
-        order = λ n. record {
-          ready = g .order n;
-          order = j .order z;
-          wide = at-most room (q .jobs) (λ x. long (or-l (ltb room (q .jobs)) _ x));
-        };
-      }
+      pub pairs-judged : {r : Answer} → r ≡ answer (later accepted) 0 0 → Judges (settlingChecks l q bytes room accepted) (Settleable l q bytes room) r
+      pairs-judged e = judged (e ∙ said 0 0 (goes-behind (call-checks short (q .bound) l q) told z (later accepted)))

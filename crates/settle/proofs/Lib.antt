@@ -1,4 +1,3 @@
 pub mod Tests
 pub mod Faults
-pub mod Answers
 pub mod Only

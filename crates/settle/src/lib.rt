@@ -8,14 +8,16 @@ ghost use Rattle.facts.specs.Facts.{has};
 ghost use Rattle.facts.specs.Least.{least};
 ghost use Rattle.rules.specs.Refusals.{accepted};
 ghost use Rattle.rules.specs.Settling.{settleChecks};
-ghost use Rattle.tables.specs.Tables.{problem, Judges};
+ghost use Rattle.tables.specs.Tables.{problem, answer, Judges};
 ghost use Rattle.tables.specs.declared.Loaded.{Loaded};
-ghost use Rattle.times.specs.Times.{first, second, Ready};
-ghost use Rattle.settle.specs.Settle.{checks, Sound, Settling};
+ghost use Rattle.times.specs.Times.{first, second};
+ghost use Rattle.settle.specs.Settle.{settlingChecks, Settling};
+ghost use Rattle.settle.specs.Steps.{Settleable};
 use tables::Answer;
 use tables::Ask;
 use tables::Loaded;
 
+// Job j is in the set.
 fn in_set(set: u64, j: u8) -> bool
     ensures { λ r. ⌜ r ≡ has set j ⌝ }
 {
@@ -52,7 +54,7 @@ fn first_outside(set: u64, pairs: &[u8], n: usize) -> usize
 // Check 15.
 fn pairs_fault(q: Ask, pairs: &[u8]) -> Answer
     requires { ⌜ (q .jobs ≤ 24) × (q .pairs ≤ length (now pairs) / 2) ⌝ }
-    ensures { λ r. ⌜ ((l : Loaded) → Judges (settleChecks (problem l q) (q .set) (first (now (pairs .entry))) (second (now (pairs .entry))) (q .pairs) accepted) (Ready q (now (pairs .entry))) r) ⌝ }
+    ensures { λ r. ⌜ ((l : Loaded) → r ≡ answer (settleChecks (problem l q) (q .set) (first (now (pairs .entry))) (second (now (pairs .entry))) (q .pairs) accepted) 0 0) ⌝ }
 {
     if tables::word_strays(q.set, q.jobs) {
         return tables::refuse(15, 601, 0);
@@ -77,22 +79,19 @@ fn too_few(out: usize, jobs: usize, lent: usize, pairs: usize) -> bool
 
 // Checks 3 to 9 and 15; `out` is the number of starts lent.
 fn settle_fault(l: Loaded, q: Ask, pairs: &[u8], out: usize) -> Answer
-    ensures { λ r. ⌜ Judges (checks l q (now (pairs .entry)) out accepted) (Sound l q (now (pairs .entry)) out) r ⌝ }
+    ensures { λ r. ⌜ Judges (settlingChecks l q (now (pairs .entry)) out accepted) (Settleable l q (now (pairs .entry)) out) r ⌝ }
 {
     let short = too_few(out, q.jobs, pairs.len(), q.pairs);
-    let fault = tables::call_fault(l, q, short);
+    let fault = tables::call_fault(l, q, short, q.bound);
     if fault.number != 0 {
         return fault;
-    }
-    if 2880 < q.bound {
-        return tables::refuse(9, 0, 0);
     }
     pairs_fault(q, pairs)
 }
 
 // The least starts, one a job, into lent memory.
 pub fn settle(l: Loaded, q: Ask, pairs: &[u8], out: &mut [u16]) -> Answer
-    ensures { λ r. ⌜ Settling l q (now (pairs .entry)) (now (out .entry)) r (now (out .exit)) ⌝ }
+    ensures { λ r. ⌜ Settling l q (now (pairs .entry)) (now (out .entry)) (now (out .exit)) r ⌝ }
 {
     let fault = settle_fault(l, q, pairs, out.len());
     if fault.number != 0 {

@@ -10,12 +10,12 @@ use borrow.Author.Tests.{eq-eqb, ne-eqb, lt-leb}
 use lib.Dec.{T, eqb, leb, ltb, leb→le, le→leb, ltb→lt, lt→ltb, T-not, not-T}
 use Rattle.facts.proofs.Bools.{and-r, and-of, same, decides-neb, decides-test}
 use Rattle.facts.proofs.Sets.{high-and}
-use Rattle.rules.specs.Refusals.{Verdict, accepted, refused}
+use Rattle.rules.specs.Refusals.{Verdict, accepted}
 use Rattle.rules.specs.Table.{between, strays}
 use Rattle.rules.proofs.Refused.{Checks, went-on}
 use Rattle.rules.proofs.Checked.{strays-fact}
 use Rattle.tables.specs.declared.Answer.{Answer}
-use Rattle.tables.specs.Tables.{answer, changed, Judges}
+use Rattle.tables.specs.Tables.{answer, changed}
 
 -- no fact of a word of 64 bits is at 64 or above
 pub strays-none : (w : ℕ) → w < 2 ^ 64 → false ≡ strays 64 w
@@ -47,10 +47,6 @@ refusal n k v w l = ap (λ (b : Bool). cond b w v) (ne-eqb n 0 (λ e. omega arit
 pub said : (yea nay : ℕ) {v w : Verdict} → v ≡ w → answer w yea nay ≡ answer v yea nay
 said yea nay {v} {w} e = ap (λ (x : Verdict). answer x yea nay) (sym e)
 
--- a refusal says nothing of the table
-pub judges-no : {v : Verdict} {A : Type 0} {n k : ℕ} {r : Answer} → r ≡ answer (refused n k) 0 0 → v ≡ refused n k → 0 < n → Judges v A r
-judges-no {n = n} e h l = record { says = e ∙ said 0 0 h; order = λ z. let o : n ≡ 0 = ap (λ (x : Answer). x .number) (sym e) ∙ z in absurd (omega arith) }
-
 -- a list of checks that says 0 accepts
 pub accepts : {C : Verdict → Verdict} → Checks C → C accepted .number ≡ 0 → C accepted ≡ accepted
 accepts {C} k z = went-on C k z accepted
@@ -66,8 +62,8 @@ pub answer-no : (v : Verdict) (yea else nay : ℕ) → (v .number ≡ 0 → ⊥)
 answer-no v yea else nay n = simp (ne-eqb _ _ n)
 
 -- a verdict that accepts changes lent memory, another leaves it
-pub changed-new : (v : Verdict) (new old : List ℕ) → v .number ≡ 0 → changed v new old ≡ new
+pub changed-new : {A : Type 0} (v : Verdict) (new old : List A) → v .number ≡ 0 → changed v new old ≡ new
 changed-new v new old e = ap (λ (b : Bool). cond b new old) (eq-eqb (v .number) 0 e)
 
-pub changed-old : (v : Verdict) (new old : List ℕ) → (v .number ≡ 0 → ⊥) → changed v new old ≡ old
+pub changed-old : {A : Type 0} (v : Verdict) (new old : List A) → (v .number ≡ 0 → ⊥) → changed v new old ≡ old
 changed-old v new old n = ap (λ (b : Bool). cond b new old) (ne-eqb (v .number) 0 n)

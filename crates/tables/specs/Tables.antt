@@ -1,55 +1,70 @@
 -- The table by value, the numbers asked with, and the answer; the checks 3 to 9 of a call.
 -- Assumes nothing.
 use mathlib.Core.Path.{_≡_}
-use mathlib.Core.Bool.{Bool, false, _||_, cond}
+use mathlib.Core.Bool.{Bool, false, not, _||_, cond}
 use mathlib.Core.List.{List}
-use Prim.Native.Nat.{ℕ, zero, suc}
-use lib.Dec.{eqb, ltb}
-use lib.ListN.{set, replicate}
-use Rattle.rules.specs.Refusals.{Verdict, refuseIf}
-use Rattle.rules.specs.Table.{Problem, listed, tableChecks}
+use Prim.Native.Nat.{ℕ, zero, suc, _≤_}
+use lib.Dec.{T, eqb, ltb}
+use lib.ListN.{getD, set, replicate}
+use Rattle.rules.specs.Refusals.{Verdict, accepted, refuseIf}
+use Rattle.rules.specs.Table.{Problem, InOrder, plain, between, strays, jobStrays, undoes, tableChecks, boundCheck}
+use Rattle.tables.specs.declared.Action.{Action}
 use Rattle.tables.specs.declared.Loaded.{Loaded}
 use Rattle.tables.specs.declared.Ask.{Ask}
 use Rattle.tables.specs.declared.Answer.{Answer}
 
+-- what stands for a record where none lies
+abbrev pub noJob : Action
+noJob = record { conditions = 0; additions = 0; deletions = 0; duration = 0 }
+
+-- the record that lies at place i
+abbrev pub recordAt : List Action → ℕ → Action
+recordAt ts i = getD ts i noJob
+
+-- job i of the table
+abbrev pub jobAt : Loaded → ℕ → Action
+jobAt l i = recordAt (l .jobs) i
+
 -- the problem that the table and the numbers give
 abbrev pub problem : Loaded → Ask → Problem
-problem l q = listed (q .jobs) (l .conditions) (l .additions) (l .deletions) (l .durations) (q .atoms) (q .opening) (q .goals)
+problem l q =
+    plain (q .jobs) (λ i. jobAt l i .conditions) (λ i. jobAt l i .additions) (λ i. jobAt l i .deletions) (λ i. jobAt l i .duration)
+    (q .atoms) (q .opening) (q .goals)
 
 -- the answer that says a verdict: the number returned is `yea` on success and `nay` on refusal
 abbrev pub answer : Verdict → (yea nay : ℕ) → Answer
 answer v yea nay = record { number = v .number; place = v .place; value = cond (eqb (v .number) 0) yea nay }
 
--- a lent table whose first n places are filled with f 0, f 1, ..; the rest is as it was
-unfoldable pub filled : (ℕ → ℕ) → ℕ → List ℕ → List ℕ
+-- lent memory whose first n places are filled with f 0, f 1, ..; the rest is as it was
+unfoldable pub filled : {A : Type 0} → (ℕ → A) → ℕ → List A → List A
 filled f zero xs = xs
 filled f (suc k) xs = set (filled f k xs) k (f k)
 
--- 24 numbers of which the first n are f 0, f 1, ..; 0 behind them
-abbrev pub column : (ℕ → ℕ) → ℕ → List ℕ
-column f n = filled f n (replicate 24 0)
-
--- the table by value of the jobs 0 to n - 1, where `lent` records were lent; zeros behind them
-abbrev pub tabled : (conditions additions deletions duration : ℕ → ℕ) (n lent : ℕ) → Loaded
-tabled c a d t n lent = record { conditions = column c n; additions = column a n; deletions = column d n; durations = column t n; lent = lent }
+-- the table by value of the jobs f 0 to f (n - 1), where `lent` records were lent; empty records behind them
+abbrev pub tabled : (f : ℕ → Action) (n lent : ℕ) → Loaded
+tabled f n lent = record { jobs = filled f n (replicate 24 noJob); lent = lent }
 
 -- the table by value without jobs
 abbrev pub noJobs : (lent : ℕ) → Loaded
-noJobs lent = record { conditions = replicate 24 0; additions = replicate 24 0; deletions = replicate 24 0; durations = replicate 24 0; lent = lent }
+noJobs lent = record { jobs = replicate 24 noJob; lent = lent }
 
 -- the table with another job i
-abbrev pub withJob : Loaded → (i conditions additions deletions duration : ℕ) → Loaded
-withJob l i c a d t = record {
-  conditions = set (l .conditions) i c;
-  additions = set (l .additions) i a;
-  deletions = set (l .deletions) i d;
-  durations = set (l .durations) i t;
-  lent = l .lent;
-}
+abbrev pub withJob : Loaded → ℕ → Action → Loaded
+withJob l i a = record { jobs = set (l .jobs) i a; lent = l .lent }
 
--- what a lent table holds after the call: changed where the verdict accepts, else as it was
-abbrev pub changed : Verdict → (new old : List ℕ) → List ℕ
+-- what lent memory holds after the call: changed where the verdict accepts, else as it was
+abbrev pub changed : {A : Type 0} → Verdict → (new old : List A) → List A
 changed v new old = cond (eqb (v .number) 0) new old
+
+-- a call that fills lent memory with a number a job: behind the checks C the verdict v comes, with a value and the numbers s, of which A is so;
+-- the answer says it all, `nay` is the value of every refusal, and where v accepts the first n places hold s
+pub record Fills (C : Verdict → Verdict) (A : Verdict → ℕ → (ℕ → ℕ) → Type 0) (nay n : ℕ) (old new : List ℕ) (r : Answer) : Type 0 where
+  pub v : Verdict
+  pub value : ℕ
+  pub s : ℕ → ℕ
+  pub behind : C accepted ≡ accepted → A v value s
+  pub says : r ≡ answer (C v) value nay
+  pub leaves : new ≡ changed (C v) (filled s n old) old
 
 -- the test r is t, and where it fails A is so
 pub record Tests (t : Bool) (A : Type 0) (r : Bool) : Type 0 where
@@ -61,6 +76,21 @@ pub record Judges (v : Verdict) (A : Type 0) (r : Answer) : Type 0 where
   pub says : r ≡ answer v 0 0
   pub order : r .number ≡ 0 → A
 
--- checks 3 to 8 of a call; `short` says that lent memory beside the table is too short
-abbrev pub callChecks : (short : Bool) → Loaded → Ask → Verdict → Verdict
-callChecks short l q next = refuseIf (short || ltb (l .lent) (q .jobs)) 3 0 (tableChecks (problem l q) next)
+-- checks 3 to 9 of a call; `short` says that lent memory beside the table is too short, and a call without a bound gives 0
+abbrev pub callChecks : (short : Bool) (bound : ℕ) → Loaded → Ask → Verdict → Verdict
+callChecks short bound l q next = refuseIf (short || ltb (l .lent) (q .jobs)) 3 0 (tableChecks (problem l q) (boundCheck bound next))
+
+-- what they give where they accept
+pub record Cleared (short : Bool) (bound : ℕ) (l : Loaded) (q : Ask) : Type 0 where
+  pub room : T short → ⊥
+  pub few : q .jobs ≤ 24
+  pub order : InOrder (problem l q)
+  pub within : bound ≤ 2880
+
+-- what checks 6, 7 and 8 look for in job i
+abbrev pub jobFails : (check : ℕ) → Problem → ℕ → Bool
+jobFails check P i = cond (eqb check 6) (not (between 1 960 (P .duration i))) (cond (eqb check 7) (jobStrays P i) (undoes P i))
+
+-- a record has a fact at or above the atom count
+abbrev pub strayRecord : (atoms : ℕ) → Action → Bool
+strayRecord atoms a = strays atoms (a .conditions) || (strays atoms (a .additions) || strays atoms (a .deletions))

@@ -5,15 +5,21 @@ ghost use Prim.Native.Nat.{_≤_, _<_, min};
 ghost use lib.Dec.{ltb};
 ghost use Rattle.facts.specs.Least.{least};
 ghost use Rattle.rules.specs.Refusals.{accepted, refused};
-ghost use Rattle.rules.specs.Table.{between, strays, jobStrays, undoes, jobChecks, InOrder};
-ghost use Rattle.tables.specs.Tables.{problem, answer, noJobs, withJob, callChecks, Judges};
+ghost use Rattle.rules.specs.Table.{between, strays, jobChecks, boundCheck};
+ghost use Rattle.tables.specs.Tables.{problem, answer, noJobs, jobAt, withJob, jobFails, strayRecord, callChecks, Judges, Cleared};
 
-// The first 24 records that were lent, field by field, and how many were lent.
+// A job as the caller keeps it.
+#[repr(C)]
+pub struct Action {
+    pub conditions: u64,
+    pub additions: u64,
+    pub deletions: u64,
+    pub duration: u16,
+}
+
+// The first 24 records that were lent, and how many were lent.
 pub struct Loaded {
-    pub conditions: [u64; 24],
-    pub additions: [u64; 24],
-    pub deletions: [u64; 24],
-    pub durations: [u16; 24],
+    pub jobs: [Action; 24],
     pub lent: usize,
 }
 
@@ -28,28 +34,32 @@ pub fn held(jobs: usize) -> usize
 pub fn no_jobs(lent: usize) -> Loaded
     ensures { λ r. ⌜ r ≡ noJobs lent ⌝ }
 {
-    let words = [0u64; 24];
-    let durations = [0u16; 24];
-    Loaded {
-        conditions: words,
-        additions: words,
-        deletions: words,
-        durations,
-        lent,
-    }
+    let none = Action {
+        conditions: 0,
+        additions: 0,
+        deletions: 0,
+        duration: 0,
+    };
+    let jobs = [none; 24];
+    Loaded { jobs, lent }
 }
 
 // The table with another job i.
-pub fn with_job(l: Loaded, i: usize, c: u64, a: u64, d: u64, duration: u16) -> Loaded
+pub fn with_job(l: Loaded, i: usize, a: Action) -> Loaded
     requires { ⌜ i < 24 ⌝ }
-    ensures { λ r. ⌜ r ≡ withJob l i c a d duration ⌝ }
+    ensures { λ r. ⌜ r ≡ withJob l i a ⌝ }
 {
     let mut t = l;
-    t.conditions[i] = c;
-    t.additions[i] = a;
-    t.deletions[i] = d;
-    t.durations[i] = duration;
+    t.jobs[i] = a;
     t
+}
+
+// Job i of the table.
+pub fn job_at(l: Loaded, i: usize) -> Action
+    requires { ⌜ i < 24 ⌝ }
+    ensures { λ r. ⌜ r ≡ jobAt l i ⌝ }
+{
+    l.jobs[i]
 }
 
 // The numbers that a call is made with; set and pairs are settling's.
@@ -104,42 +114,13 @@ fn outside(n: u16, most: u16) -> bool
     most < n
 }
 
-// The lowest job with a duration that is not 1 to 960, or n.
-fn first_duration(l: Loaded, q: Ask) -> usize
-    requires { ⌜ q .jobs ≤ 24 ⌝ }
-    ensures { λ r. ⌜ r ≡ least (λ i. not (between 1 960 (problem l q .duration i))) (q .jobs) ⌝ }
+// The record has a fact at or above the atom count.
+fn job_strays(a: Action, atoms: usize) -> bool
+    requires { ⌜ atoms ≤ 64 ⌝ }
+    ensures { λ r. ⌜ r ≡ strayRecord atoms a ⌝ }
 {
-    let n = q.jobs;
-    for i in 0..n {
-        if outside(l.durations[i], 960) {
-            return i;
-        }
-    }
-    n
-}
-
-// Job i has a fact at or above the atom count.
-fn job_strays(l: Loaded, q: Ask, i: usize) -> bool
-    requires { ⌜ (i < 24) × (q .atoms ≤ 64) ⌝ }
-    ensures { λ r. ⌜ r ≡ jobStrays (problem l q) i ⌝ }
-{
-    let atoms = q.atoms as usize;
-    word_strays(l.conditions[i], atoms)
-        || (word_strays(l.additions[i], atoms) || word_strays(l.deletions[i], atoms))
-}
-
-// The lowest job that has one, or n.
-fn first_stray(l: Loaded, q: Ask) -> usize
-    requires { ⌜ (q .jobs ≤ 24) × (q .atoms ≤ 64) ⌝ }
-    ensures { λ r. ⌜ r ≡ least (jobStrays (problem l q)) (q .jobs) ⌝ }
-{
-    let n = q.jobs;
-    for i in 0..n {
-        if job_strays(l, q, i) {
-            return i;
-        }
-    }
-    n
+    word_strays(a.conditions, atoms)
+        || (word_strays(a.additions, atoms) || word_strays(a.deletions, atoms))
 }
 
 // The opening facts or the goals have a fact at or above the atom count.
@@ -151,22 +132,29 @@ fn edges_stray(q: Ask) -> bool
     word_strays(q.opening, atoms) || word_strays(q.goals, atoms)
 }
 
-// Job i adds and deletes one fact.
-fn job_undoes(l: Loaded, q: Ask, i: usize) -> bool
-    requires { ⌜ i < 24 ⌝ }
-    ensures { λ r. ⌜ r ≡ undoes (problem l q) i ⌝ }
+// Job i fails check 6, 7 or 8.
+fn job_fails(l: Loaded, q: Ask, i: usize, check: u8) -> bool
+    requires { ⌜ (i < 24) × (q .atoms ≤ 64) ⌝ }
+    ensures { λ r. ⌜ r ≡ jobFails check (problem l q) i ⌝ }
 {
-    facts::meets(l.additions[i], l.deletions[i])
+    let a = l.jobs[i];
+    if check == 6 {
+        return outside(a.duration, 960);
+    }
+    if check == 7 {
+        return job_strays(a, q.atoms as usize);
+    }
+    facts::meets(a.additions, a.deletions)
 }
 
-// The lowest job that does, or n.
-fn first_undone(l: Loaded, q: Ask) -> usize
-    requires { ⌜ q .jobs ≤ 24 ⌝ }
-    ensures { λ r. ⌜ r ≡ least (undoes (problem l q)) (q .jobs) ⌝ }
+// The lowest job that fails it, or the job count.
+fn first_job(l: Loaded, q: Ask, check: u8) -> usize
+    requires { ⌜ (q .jobs ≤ 24) × (q .atoms ≤ 64) ⌝ }
+    ensures { λ r. ⌜ r ≡ least (jobFails check (problem l q)) (q .jobs) ⌝ }
 {
     let n = q.jobs;
     for i in 0..n {
-        if job_undoes(l, q, i) {
+        if job_fails(l, q, i, check) {
             return i;
         }
     }
@@ -185,26 +173,29 @@ pub fn refuse(number: u8, place: u16, value: u32) -> Answer
     }
 }
 
-// Checks 6 to 8.
-fn jobs_fault(l: Loaded, q: Ask) -> Answer
+// Checks 6 to 9.
+fn jobs_fault(l: Loaded, q: Ask, bound: u16) -> Answer
     requires { ⌜ (q .jobs ≤ 24) × (q .atoms ≤ 64) ⌝ }
-    ensures { λ r. ⌜ r ≡ answer (jobChecks (problem l q) accepted) 0 0 ⌝ }
+    ensures { λ r. ⌜ r ≡ answer (jobChecks (problem l q) (boundCheck bound accepted)) 0 0 ⌝ }
 {
     let n = q.jobs;
-    let long = first_duration(l, q);
+    let long = first_job(l, q, 6);
     if long < n {
         return refuse(6, long as u16, 0);
     }
-    let stray = first_stray(l, q);
+    let stray = first_job(l, q, 7);
     if stray < n {
         return refuse(7, stray as u16, 0);
     }
     if edges_stray(q) {
         return refuse(7, 24, 0);
     }
-    let both = first_undone(l, q);
+    let both = first_job(l, q, 8);
     if both < n {
         return refuse(8, both as u16, 0);
+    }
+    if 2880 < bound {
+        return refuse(9, 0, 0);
     }
     done(0)
 }
@@ -216,9 +207,9 @@ pub fn too_short(short: bool, lent: usize, jobs: usize) -> bool
     short || lent < jobs
 }
 
-// Checks 3 to 8; `short` says that lent memory beside the table is too short.
-pub fn call_fault(l: Loaded, q: Ask, short: bool) -> Answer
-    ensures { λ r. ⌜ Judges (callChecks short l q accepted) (InOrder (problem l q)) r ⌝ }
+// Checks 3 to 9; `short` says that lent memory beside the table is too short, and a call without a bound gives 0.
+pub fn call_fault(l: Loaded, q: Ask, short: bool, bound: u16) -> Answer
+    ensures { λ r. ⌜ Judges (callChecks short bound l q accepted) (Cleared short bound l q) r ⌝ }
 {
     if too_short(short, l.lent, q.jobs) {
         return refuse(3, 0, 0);
@@ -229,5 +220,5 @@ pub fn call_fault(l: Loaded, q: Ask, short: bool) -> Answer
     if 24 < q.jobs {
         return refuse(5, 0, 0);
     }
-    jobs_fault(l, q)
+    jobs_fault(l, q, bound)
 }

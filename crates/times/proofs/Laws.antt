@@ -22,7 +22,8 @@ use Rattle.tables.specs.declared.Ask.{Ask}
 use Rattle.tables.specs.Tables.{problem}
 use Rattle.entries.specs.Entries.{entry, Same}
 use Rattle.times.specs.declared.Outcome.{Outcome}
-use Rattle.times.specs.Times.{first, second, wanted, asks, Ready, Begins, Ends, Under, Pushes, Pushed, Behind, Hopeless, Round, Rounds, Found}
+use Rattle.times.specs.Times.{first, second, wanted}
+use Rattle.times.specs.Steps.{asks, Ready, Begins, Ends, Under, Pushes, Pushed, Behind, Hopeless, Round, Rounds, Found}
 
 -- a list with one number raised to x
 module _ (s : List ℕ) (b x : ℕ) (room : b < length s) where

@@ -6,7 +6,7 @@ ghost use lib.Dec.{ltb};
 ghost use Rattle.facts.specs.Facts.{has, Decides};
 ghost use Rattle.tables.specs.Tables.{problem};
 ghost use Rattle.entries.specs.Entries.{entry};
-ghost use Rattle.times.specs.Times.{asks, Ready, Begins, Ends, Pushes, Round, Rounds, Found};
+ghost use Rattle.times.specs.Steps.{asks, Ready, Begins, Ends, Pushes, Round, Rounds, Found};
 use tables::Ask;
 use tables::Loaded;
 
@@ -53,7 +53,9 @@ fn round(l: Loaded, q: Ask, pairs: &[u8], t: [u16; 24]) -> Outcome
         let at = 2 * k;
         let a = job(pairs[at]);
         let b = job(pairs[at + 1]);
-        let r = push(s, a, b, l.durations[a], l.durations[b], q.bound);
+        let first = l.jobs[a];
+        let second = l.jobs[b];
+        let r = push(s, a, b, first.duration, second.duration, q.bound);
         let ok = r.ok;
         if !ok {
             return r;
@@ -128,7 +130,8 @@ fn all_end(l: Loaded, q: Ask, t: [u16; 24]) -> bool
 {
     let n = q.jobs;
     for j in 0..n {
-        if late(q.set, j, t[j], l.durations[j], q.bound) {
+        let a = l.jobs[j];
+        if late(q.set, j, t[j], a.duration, q.bound) {
             return false;
         }
     }

@@ -7,7 +7,8 @@ use Prim.Native.Nat.{ℕ, _≤_, _<_}
 use lib.Dec.{T}
 use Rattle.facts.specs.Facts.{has}
 use Rattle.rules.specs.Table.{InOrder}
-use Rattle.tables.specs.Tables.{problem}
+use Rattle.tables.specs.Tables.{jobAt, problem}
+use Rattle.tables.specs.declared.Action.{Action}
 use Rattle.tables.specs.declared.Loaded.{Loaded}
 use Rattle.tables.specs.declared.Ask.{Ask}
 use Rattle.entries.specs.Entries.{entry}
@@ -45,18 +46,18 @@ pub record Image (fact : List ℕ) (w v : ℕ) : Type 0 where
 
 -- ── jobs ──
 
--- job k is job j with other facts
-pub record SameJob (l : Loaded) (j k : ℕ) (fact : List ℕ) : Type 0 where
-  pub conditions : Image fact (entry (l .conditions) j) (entry (l .conditions) k)
-  pub additions : Image fact (entry (l .additions) j) (entry (l .additions) k)
-  pub deletions : Image fact (entry (l .deletions) j) (entry (l .deletions) k)
-  pub duration : entry (l .durations) k ≡ entry (l .durations) j
+-- job b is job a with other facts
+pub record SameJob (a b : Action) (fact : List ℕ) : Type 0 where
+  pub conditions : Image fact (a .conditions) (b .conditions)
+  pub additions : Image fact (a .additions) (b .additions)
+  pub deletions : Image fact (a .deletions) (b .deletions)
+  pub duration : b .duration ≡ a .duration
 
 -- a job below n takes the place of j, and j its place
 pub record TurnsJob (l : Loaded) (n : ℕ) (g : Guess) (j : ℕ) : Type 0 where
   pub below : entry (g .to) j < n
   pub again : entry (g .to) (entry (g .to) j) ≡ j
-  pub same : SameJob l j (entry (g .to) j) (g .fact)
+  pub same : SameJob (jobAt l j) (jobAt l (entry (g .to) j)) (g .fact)
 
 -- so it is for the jobs below k
 abbrev pub TurnsBelow : Loaded → (n : ℕ) → Guess → (k : ℕ) → Type 0

@@ -6,6 +6,7 @@ ghost use Rattle.tables.specs.Tables.{problem};
 ghost use Rattle.entries.specs.Entries.{entry};
 ghost use Rattle.turns.specs.Turns.{Turn};
 ghost use Rattle.turns.specs.Checked.{Back, AllBack, Moved, Image, SameJob, TurnsJob, TurnsBelow, MovesTo, Leader, Follower};
+use tables::Action;
 use tables::Ask;
 use tables::Loaded;
 
@@ -72,21 +73,20 @@ fn facts_back(fact: [u8; 64]) -> bool
     true
 }
 
-// Job k is job j with other facts.
-fn same_job(l: Loaded, j: usize, k: usize, fact: [u8; 64]) -> bool
-    requires { ⌜ (j < 24) × (k < 24) ⌝ }
-    ensures { λ r. ⌜ (r ≡ true → SameJob l j k fact) ⌝ }
+// Job b is job a with other facts.
+fn same_job(a: Action, b: Action, fact: [u8; 64]) -> bool
+    ensures { λ r. ⌜ (r ≡ true → SameJob a b fact) ⌝ }
 {
-    if l.durations[k] != l.durations[j] {
+    if b.duration != a.duration {
         return false;
     }
-    if image(l.conditions[j], fact) != l.conditions[k] {
+    if image(a.conditions, fact) != b.conditions {
         return false;
     }
-    if image(l.additions[j], fact) != l.additions[k] {
+    if image(a.additions, fact) != b.additions {
         return false;
     }
-    image(l.deletions[j], fact) == l.deletions[k]
+    image(a.deletions, fact) == b.deletions
 }
 
 // Job j and the job that takes its place.
@@ -102,7 +102,7 @@ fn turns_job(l: Loaded, n: usize, g: Guess, j: usize) -> bool
         return false;
     }
     let fact = g.fact;
-    same_job(l, j, k, fact)
+    same_job(l.jobs[j], l.jobs[k], fact)
 }
 
 // The jobs below n.
@@ -242,16 +242,18 @@ fn swap_jobs(g: Guess, i: usize, j: usize) -> Guess
 fn pair_jobs(g: Guess, l: Loaded, i: usize, j: usize) -> Guess
     requires { ⌜ (i < 24) × (j < 24) ⌝ }
 {
-    if l.durations[i] != l.durations[j] {
+    let a = l.jobs[i];
+    let b = l.jobs[j];
+    if a.duration != b.duration {
         return clash(g);
     }
     let r = swap_jobs(g, i, j);
     if !r.ok {
         return r;
     }
-    let s = swap_words(r, l.conditions[i], l.conditions[j]);
-    let t = swap_words(s, l.additions[i], l.additions[j]);
-    swap_words(t, l.deletions[i], l.deletions[j])
+    let s = swap_words(r, a.conditions, b.conditions);
+    let t = swap_words(s, a.additions, b.additions);
+    swap_words(t, a.deletions, b.deletions)
 }
 
 // Job k and the one that takes its place are the same with other facts.
@@ -263,7 +265,7 @@ fn fits(g: Guess, l: Loaded, k: usize) -> bool
         return false;
     }
     let fact = g.fact;
-    same_job(l, k, m, fact)
+    same_job(l.jobs[k], l.jobs[m], fact)
 }
 
 // The first job below n that does not fit, or 24.
@@ -356,7 +358,9 @@ fn leads(l: Loaded, q: Ask, m: usize, n: usize) -> bool
     requires { ⌜ (q .jobs ≤ 24) × (m < q .jobs) × (n < 24) ⌝ }
     ensures { λ r. ⌜ (r ≡ true → Leader l q m n) ⌝ }
 {
-    if l.durations[m] != l.durations[n] {
+    let a = l.jobs[m];
+    let b = l.jobs[n];
+    if a.duration != b.duration {
         return false;
     }
     let g = find(l, q.jobs, m, n);

@@ -2,7 +2,7 @@
 -- Assumes nothing.
 use mathlib.Core.Path.{_≡_, refl, sym, ap, ap₂, _∙_}
 use mathlib.Core.Logic.{_⊎_, inl, inr}
-use mathlib.Core.Bool.{Bool, true, false, not, _&&_, _||_}
+use mathlib.Core.Bool.{Bool, true, false, not, _&&_}
 use Prim.Native.Nat.{ℕ, zero, suc, _+_, _-_, _≤_, _<_}
 use native.Mathlib.Nat.{add-zero, sub-zero}
 use borrow.Author.Tests.{ne-eqb}
@@ -13,15 +13,15 @@ use lib.ListN.{getD}
 use mathlib.Core.List.{List}
 use Rattle.facts.specs.Facts.{has, Word}
 use Rattle.facts.specs.Least.{least, any}
-use Rattle.facts.proofs.Bools.{and-l, and-r, or-at, or-first}
+use Rattle.facts.proofs.Bools.{and-l, and-r, or-at}
 use Rattle.facts.proofs.Least.{least-same}
 use Rattle.rules.specs.Table.{Problem}
 use Rattle.rules.specs.Plans.{Plan, starts, In, inPlan, finish, interfere, ends, afterIf, finishes, holds}
 use Rattle.rules.specs.Verdicts.{overlap, unready}
 use Rattle.tables.specs.declared.Loaded.{Loaded}
 use Rattle.tables.specs.declared.Ask.{Ask}
-use Rattle.tables.specs.Tables.{problem}
-use Rattle.verdict.specs.Offered.{chosen, FactsAt, Next}
+use Rattle.tables.specs.Tables.{problem, jobAt}
+use Rattle.verdict.specs.Steps.{chosen, FactsAt, Next}
 
 -- ── the facts from finish to finish ──
 
@@ -85,17 +85,13 @@ regroup true false true y z = refl
 regroup true false false y z = refl
 regroup false b x y z = refl
 
--- a test that passed, where the code returns true by itself
-pub or-yes : {r x : Bool} (y : Bool) → r ≡ x → r ≡ true → true ≡ (x || y)
-or-yes y e h = sym h ∙ or-first y e h
-
 -- the overlap of two jobs of a table: each ends after the other's start, and they interfere
 pub overlap-of : (l : Loaded) (q : Ask) (s : List ℕ) (i j : ℕ)
-    → (((chosen (getD s i 0) && ltb (getD s j 0) (getD s i 0 + getD (l .durations) i 0)) && (chosen (getD s j 0) && ltb (getD s i 0) (getD s j 0 + getD (l .durations) j 0))) && interfere (problem l q) i j)
+    → (((chosen (getD s i 0) && ltb (getD s j 0) (getD s i 0 + jobAt l i .duration)) && (chosen (getD s j 0) && ltb (getD s i 0) (getD s j 0 + jobAt l j .duration))) && interfere (problem l q) i j)
     ≡ overlap (problem l q) (starts s) i j
 unfolding overlap inPlan
 overlap-of l q s i j =
-    simp add-zero (regroup (chosen (getD s i 0)) (chosen (getD s j 0)) (ltb (getD s j 0) (getD s i 0 + getD (l .durations) i 0)) (ltb (getD s i 0) (getD s j 0 + getD (l .durations) j 0)) (interfere (problem l q) i j))
+    simp add-zero (regroup (chosen (getD s i 0)) (chosen (getD s j 0)) (ltb (getD s j 0) (getD s i 0 + jobAt l i .duration)) (ltb (getD s i 0) (getD s j 0 + jobAt l j .duration)) (interfere (problem l q) i j))
 
 -- what is wanted and not in the word of facts at a time is what is wanted and does not hold then
 pub lacking-same : (f : ℕ → Bool) (want have : ℕ) → Word f have → least (λ p. has want p && not (has have p)) 64 ≡ least (λ p. has want p && not (f p)) 64
@@ -103,7 +99,7 @@ lacking-same f want have h = least-same _ _ 64 (λ p l. ap (λ (b : Bool). has w
 
 -- a job in the plan is not ready where a condition is not among the facts at its start
 pub unready-of : (l : Loaded) (q : Ask) (s : List ℕ) (i r w : ℕ) → (getD s i 0 ≡ 65535 → ⊥) → FactsAt (problem l q) (starts s) (getD s i 0) w
-    → r ≡ least (λ p. has (getD (l .conditions) i 0) p && not (has w p)) 64 → ltb r 64 ≡ unready (problem l q) (starts s) i
+    → r ≡ least (λ p. has (jobAt l i .conditions) p && not (has w p)) 64 → ltb r 64 ≡ unready (problem l q) (starts s) i
 unfolding unready inPlan any
 unready-of l q s i r w n f e =
-    simp (ne-eqb _ _ n, sub-zero) (ap (λ (x : ℕ). ltb x 64) (e ∙ lacking-same (λ p. holds (problem l q) (starts s) p (getD s i 0)) (getD (l .conditions) i 0) w f))
+    simp (ne-eqb _ _ n, sub-zero) (ap (λ (x : ℕ). ltb x 64) (e ∙ lacking-same (λ p. holds (problem l q) (starts s) p (getD s i 0)) (jobAt l i .conditions) w f))

@@ -1,1 +1,2 @@
 pub mod Offered
+pub mod Steps

@@ -3,39 +3,19 @@ use tables::Answer;
 use tables::Ask;
 use tables::Loaded;
 ghost use mathlib.Core.Path.{_≡_};
-ghost use mathlib.Core.Bool.{not, _&&_, _||_};
+ghost use mathlib.Core.Bool.{not, _&&_};
 ghost use Prim.Native.Nat.{_+_, _<_};
 ghost use lib.Dec.{eqb, ltb};
 ghost use lib.ListN.{length};
 ghost use Rattle.facts.specs.Facts.{has, Word};
-ghost use Rattle.facts.specs.Least.{least, any};
+ghost use Rattle.facts.specs.Least.{least};
 ghost use Rattle.rules.specs.Refusals.{accepted};
-ghost use Rattle.rules.specs.Plans.{starts, afterIf, finishes, interfere};
-ghost use Rattle.rules.specs.Verdicts.{late, overlap, clashes, unready, missing, planChecks};
+ghost use Rattle.rules.specs.Plans.{starts, afterIf, finishes};
+ghost use Rattle.rules.specs.Verdicts.{overlap, clashes, unready, missing, planChecks};
 ghost use Rattle.tables.specs.declared.Ask.{Ask};
-ghost use Rattle.tables.specs.Tables.{problem, answer};
-ghost use Rattle.verdict.specs.Offered.{offered, Offered, Given, FactsAt, chosen, Nearer, Next};
-
-// A job that deletes these facts deletes a condition or an addition of the other.
-fn spoils(deletions: u64, conditions: u64, additions: u64) -> bool
-    ensures { λ r. ⌜ r ≡ any (λ p. has deletions p && (has conditions p || has additions p)) 64 ⌝ }
-{
-    facts::meets(deletions, conditions | additions)
-}
-
-// Jobs i and j are two, and one deletes a condition or an addition of the other.
-pub fn interferes(l: Loaded, i: usize, j: usize) -> bool
-    requires { ⌜ (i < 24) × (j < 24) ⌝ }
-    ensures { λ r. ⌜ ((q : Ask) → r ≡ interfere (problem l q) i j) ⌝ }
-{
-    if i == j {
-        return false;
-    }
-    if spoils(l.deletions[i], l.conditions[j], l.additions[j]) {
-        return true;
-    }
-    spoils(l.deletions[j], l.conditions[i], l.additions[i])
-}
+ghost use Rattle.tables.specs.Tables.{problem, answer, Judges};
+ghost use Rattle.verdict.specs.Offered.{offered, ChecksPlan};
+ghost use Rattle.verdict.specs.Steps.{Sound, Given, FactsAt, chosen, Nearer, Next, stepFails};
 
 // The job is in and finishes at t.
 fn ends_at(start: u16, duration: u16, t: u32) -> bool
@@ -62,8 +42,9 @@ fn after_finishes(l: Loaded, q: Ask, s: &[u16], t: u32, before: u64) -> u64
     let n = q.jobs;
     let mut state = before;
     for i in 0..n {
-        let ends = ends_at(s[i], l.durations[i], t);
-        state = after_job(state, l.additions[i], l.deletions[i], ends);
+        let a = l.jobs[i];
+        let ends = ends_at(s[i], a.duration, t);
+        state = after_job(state, a.additions, a.deletions, ends);
     }
     state
 }
@@ -93,7 +74,8 @@ fn next_finish(l: Loaded, q: Ask, s: &[u16], from: u32, till: u32) -> u32
     let n = q.jobs;
     let mut best = till;
     for i in 0..n {
-        best = nearer(s[i], l.durations[i], from, best);
+        let a = l.jobs[i];
+        best = nearer(s[i], a.duration, from, best);
     }
     best
 }
@@ -120,20 +102,6 @@ fn ends_after(start: u16, duration: u16, t: u16) -> bool
     start != 65535 && (t as u32) < start as u32 + duration as u32
 }
 
-// The lowest job that ends after the bound, or the job count.
-fn first_late(l: Loaded, q: Ask, s: &[u16]) -> usize
-    requires { ⌜ Given q (now s) ⌝ }
-    ensures { λ r. ⌜ r ≡ least (late (problem l q) (q .bound) (starts (now (s .entry)))) (q .jobs) ⌝ }
-{
-    let n = q.jobs;
-    for i in 0..n {
-        if ends_after(s[i], l.durations[i], q.bound) {
-            return i;
-        }
-    }
-    n
-}
-
 // Both jobs are in, and each starts before the other finishes: touching is not that.
 fn together(a: u16, a_long: u16, b: u16, b_long: u16) -> bool
     ensures { λ r. ⌜ r ≡ ((chosen a && ltb b (a + «a_long»)) && (chosen b && ltb a (b + «b_long»))) ⌝ }
@@ -146,8 +114,10 @@ fn overlap(l: Loaded, s: &[u16], i: usize, j: usize) -> bool
     requires { ⌜ (i < 24) × (j < 24) × (i < length (now s)) × (j < length (now s)) ⌝ }
     ensures { λ r. ⌜ ((q : Ask) → r ≡ overlap (problem l q) (starts (now (s .entry))) i j) ⌝ }
 {
-    if together(s[i], l.durations[i], s[j], l.durations[j]) {
-        return interferes(l, i, j);
+    let a = l.jobs[i];
+    let b = l.jobs[j];
+    if together(s[i], a.duration, s[j], b.duration) {
+        return interference::interferes(l, i, j);
     }
     false
 }
@@ -166,20 +136,6 @@ fn clashes(l: Loaded, q: Ask, s: &[u16], i: usize) -> bool
     false
 }
 
-// The lowest job that does, or the job count.
-fn first_clash(l: Loaded, q: Ask, s: &[u16]) -> usize
-    requires { ⌜ Given q (now s) ⌝ }
-    ensures { λ r. ⌜ r ≡ least (clashes (problem l q) (starts (now (s .entry)))) (q .jobs) ⌝ }
-{
-    let n = q.jobs;
-    for i in 0..n {
-        if clashes(l, q, s, i) {
-            return i;
-        }
-    }
-    n
-}
-
 // The lowest fact that is wanted and not there, 64 for none.
 fn first_lacking(have: u64, want: u64) -> u32
     ensures { λ r. ⌜ r ≡ least (λ p. has want p && not (has have p)) 64 ⌝ }
@@ -195,18 +151,34 @@ fn unready(l: Loaded, q: Ask, s: &[u16], i: usize) -> bool
     if s[i] == 65535 {
         return false;
     }
+    let a = l.jobs[i];
     let state = facts_at(l, q, s, s[i]);
-    first_lacking(state, l.conditions[i]) < 64
+    first_lacking(state, a.conditions) < 64
 }
 
-// The lowest job that does, or the job count.
-fn first_unready(l: Loaded, q: Ask, s: &[u16]) -> usize
+// Job i fails check 11, 12 or 13.
+fn step_fails(l: Loaded, q: Ask, s: &[u16], i: usize, check: u8) -> bool
+    requires { ⌜ Given q (now s) × (i < q .jobs) ⌝ }
+    ensures { λ r. ⌜ r ≡ stepFails check (problem l q) (q .bound) (starts (now (s .entry))) i ⌝ }
+{
+    if check == 11 {
+        let a = l.jobs[i];
+        return ends_after(s[i], a.duration, q.bound);
+    }
+    if check == 12 {
+        return clashes(l, q, s, i);
+    }
+    unready(l, q, s, i)
+}
+
+// The lowest job that fails it, or the job count.
+fn first_step(l: Loaded, q: Ask, s: &[u16], check: u8) -> usize
     requires { ⌜ Given q (now s) ⌝ }
-    ensures { λ r. ⌜ r ≡ least (unready (problem l q) (starts (now (s .entry)))) (q .jobs) ⌝ }
+    ensures { λ r. ⌜ r ≡ least (stepFails check (problem l q) (q .bound) (starts (now (s .entry)))) (q .jobs) ⌝ }
 {
     let n = q.jobs;
     for i in 0..n {
-        if unready(l, q, s, i) {
+        if step_fails(l, q, s, i, check) {
             return i;
         }
     }
@@ -227,15 +199,15 @@ fn steps_fault(l: Loaded, q: Ask, s: &[u16]) -> Answer
     ensures { λ r. ⌜ r ≡ answer (planChecks (problem l q) (q .bound) (starts (now (s .entry))) accepted) 0 0 ⌝ }
 {
     let n = q.jobs;
-    let late = first_late(l, q, s);
+    let late = first_step(l, q, s, 11);
     if late < n {
         return tables::refuse(11, late as u16, 0);
     }
-    let clash = first_clash(l, q, s);
+    let clash = first_step(l, q, s, 12);
     if clash < n {
         return tables::refuse(12, clash as u16, 0);
     }
-    let unready = first_unready(l, q, s);
+    let unready = first_step(l, q, s, 13);
     if unready < n {
         return tables::refuse(13, unready as u16, 0);
     }
@@ -248,22 +220,19 @@ fn steps_fault(l: Loaded, q: Ask, s: &[u16]) -> Answer
 
 // The verdict for calls that lend more memory, of which `short` says that it is too short.
 pub fn plan_fault(l: Loaded, q: Ask, starts: &[u16], short: bool) -> Answer
-    ensures { λ r. ⌜ Offered short l q (now (starts .entry)) r ⌝ }
+    ensures { λ r. ⌜ Judges (offered short l q (now (starts .entry)) accepted) (Sound short l q (now (starts .entry))) r ⌝ }
 {
     let few = tables::too_short(short, starts.len(), q.jobs);
-    let table = tables::call_fault(l, q, few);
-    if table.number != 0 {
-        return table;
-    }
-    if 2880 < q.bound {
-        return tables::refuse(9, 0, 0);
+    let fault = tables::call_fault(l, q, few, q.bound);
+    if fault.number != 0 {
+        return fault;
     }
     steps_fault(l, q, starts)
 }
 
 // The verdict on an offered plan.
 pub fn check_plan(l: Loaded, q: Ask, starts: &[u16]) -> Answer
-    ensures { λ r. ⌜ r ≡ answer (offered (ltb (length (now (starts .entry))) (q .jobs)) l q (now (starts .entry)) accepted) 0 0 ⌝ }
+    ensures { λ r. ⌜ ChecksPlan l q (now (starts .entry)) r ⌝ }
 {
     plan_fault(l, q, starts, false)
 }

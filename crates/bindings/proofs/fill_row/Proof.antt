@@ -7,7 +7,7 @@ use borrow.Author.Needs.{needs}
 use lib.ListN.{length, length-set}
 use Rattle.tables.specs.Tables.{filled}
 use Rattle.bindings.proofs.Filled.{row-more}
-use Rattle.bindings.specs.Bindings.{rowByte}
+use Rattle.bindings.specs.Steps.{rowByte}
 use Rattle.bindings.proofs.fill_row.Statement.{statement}
 use Rattle.bindings.proofs.fill_row.Tie as tie
 

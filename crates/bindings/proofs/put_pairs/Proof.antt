@@ -8,7 +8,7 @@ use Rattle.rules.specs.Plans.{starts}
 use Rattle.tables.specs.Tables.{problem}
 use Rattle.bindings.proofs.Count.{next-room}
 use Rattle.bindings.proofs.Filled.{puts-none, puts-next}
-use Rattle.bindings.specs.Bindings.{pairRow, Puts}
+use Rattle.bindings.specs.Steps.{pairRow, Puts}
 use Rattle.bindings.proofs.put_pairs.Statement.{statement}
 use Rattle.bindings.proofs.put_pairs.Tie as tie
 

@@ -9,7 +9,7 @@ use Rattle.rules.specs.Plans.{starts}
 use Rattle.tables.specs.Tables.{problem}
 use Rattle.bindings.proofs.Count.{next-room}
 use Rattle.bindings.proofs.Filled.{puts-none, puts-next}
-use Rattle.bindings.specs.Bindings.{pairRow, Puts}
+use Rattle.bindings.specs.Steps.{pairRow, Puts}
 use Rattle.bindings.proofs.put_row.Statement.{statement}
 use Rattle.bindings.proofs.put_row.Tie as tie
 

@@ -1,7 +1,7 @@
 use mathlib.Core.Path.{sym, _∙_}
 use borrow.Author.Needs.{needs}
 use Rattle.bindings.proofs.Bytes.{pick-start, pick-job, pick-none}
-use Rattle.bindings.specs.Bindings.{rowByte}
+use Rattle.bindings.specs.Steps.{rowByte}
 use Rattle.bindings.proofs.support_byte.Statement.{statement}
 use Rattle.bindings.proofs.support_byte.Tie as tie
 

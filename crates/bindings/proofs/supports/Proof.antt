@@ -14,4 +14,9 @@ returns-2 c = all-supports (c .before .before .before .before .before .before .b
 
 pub supports-spec : {M : Type 1} → statement M
 supports-spec =
-    tie.close (tie.spec (λ c κs. search needs) returns fill-supports-requires (λ c. search needs) returns-2)
+    tie.close (tie.spec
+    (λ c κs. search needs)
+    returns
+    fill-supports-requires
+    (λ c. search needs)
+    returns-2)

@@ -1,5 +1,4 @@
 use Rattle.distances.proofs.Rows as rows
-use borrow.Author.Needs.{needs}
 use Rattle.distances.proofs.lacks.Statement.{statement}
 use Rattle.distances.proofs.lacks.Tie as tie
 

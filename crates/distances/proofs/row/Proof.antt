@@ -6,11 +6,11 @@ use Rattle.distances.proofs.row.Tie as tie
 
 returns : tie.Need-returns
 returns c =
-    let e = c .before .before .before .estimate-all in
-    let w = c .before .before .before .before .lacks in
-    let d = c .before .before .dearest in
-    let a = c .before .before .before .before .before .before .args in
-    row-apart (problem (a .t1) (a .q)) (a .a) (w .result) (e .result) (d .result) (c .behind .result) (c .before .before .before .before .before .before .pre .0) (w .ensures) (e .ensures) (d .ensures) (c .behind .ensures)
+    let e = c .before .before .estimate-all in
+    let w = c .before .before .before .lacks in
+    let d = c .before .dearest in
+    let a = c .before .before .before .before .before .args in
+    row-apart (problem (a .t1) (a .q)) (a .a) (w .result) (e .result) (d .result) (c .behind .result) (c .before .before .before .before .before .pre .0) (w .ensures) (e .ensures) (d .ensures) (c .behind .ensures)
 
 pub row-spec : {M : Type 1} → statement M
 row-spec =
@@ -21,7 +21,5 @@ row-spec =
     (λ c κs. search needs)
     (λ c κs. search needs)
     (λ c κs. search needs)
-    (λ c. search needs)
-    (λ c. search needs)
     (λ c κs. search needs)
     returns)

@@ -25,7 +25,7 @@ unfolding cheapest
 loop-holds c = (omega arith, λ q. refl)
 
 loop-again : tie.Need-loop-again Inv-loop μ-loop
-loop-again c = (omega arith, λ q. c .lower .ensures ∙ ap₂ min (c .before .cost-by .ensures) (c .before .before .before .before .before .loop .inv .1 q) ∙ cheapest-more (problem (c .before .before .before .before .before .before .before .before .args .t1) q) (entry (c .before .before .before .before .before .before .before .before .args .t3)) (c .before .before .before .before .before .before .before .before .args .p) (c .before .before .before .before .before .loop .k))
+loop-again c = (omega arith, λ q. c .lower .ensures ∙ ap₂ min (c .before .cost-by .ensures) (c .before .before .before .before .loop .inv .1 q) ∙ cheapest-more (problem (c .before .before .before .before .before .before .before .args .t1) q) (entry (c .before .before .before .before .before .before .before .args .t3)) (c .before .before .before .before .before .before .before .args .p) (c .before .before .before .before .loop .k))
 
 returns-2 : tie.Need-returns-2 Inv-loop μ-loop
 returns-2 c = let e : c .before .loop .k ≡ c .before .before .before .before .args .q .jobs = omega arith in
@@ -40,8 +40,6 @@ cost-spec =
     (λ c κs. search needs)
     returns
     loop-holds
-    (λ c. search needs)
-    (λ c. search needs)
     (λ c. search needs)
     (λ c. search needs)
     (λ c. search needs)

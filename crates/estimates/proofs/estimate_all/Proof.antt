@@ -30,4 +30,12 @@ loop-again c = (search needs, high-next (problem (c .before .before .before .bef
 pub estimate-all-spec : {M : Type 1} → statement M
 estimate-all-spec =
     tie.close
-    (tie.spec Inv-loop μ-loop loop-holds (λ c κs. search needs) (λ c κs. search needs) returns loop-less loop-again)
+    (tie.spec
+    Inv-loop
+    μ-loop
+    loop-holds
+    (λ c κs. search needs)
+    (λ c κs. search needs)
+    returns
+    loop-less
+    loop-again)

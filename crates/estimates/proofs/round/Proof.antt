@@ -3,7 +3,7 @@ use mathlib.Core.Path.{_≡_, refl, _∙_}
 use Prim.Native.Nat.{ℕ, _-_, _≤_, _<_}
 use native.Mathlib.Omega.{arith}
 use lib.ListN.{length, length-set}
-use Rattle.tables.specs.Tables.{problem}
+use Rattle.tables.specs.Tables.{jobAt, problem}
 use Rattle.entries.specs.Entries.{entry}
 use Rattle.entries.proofs.Laws.{stored}
 use Rattle.estimates.specs.Rounds.{greatest}
@@ -12,7 +12,7 @@ use Rattle.estimates.proofs.round.Statement.{statement}
 use Rattle.estimates.proofs.round.Tie as tie
 
 abbrev Inv-loop : tie.InvT-loop
-Inv-loop l costs n next₀ i₀ next i = (i ≤ n) × (length next ≡ 24) × ((k : ℕ) → k < i → entry next k ≡ greatest (entry (l .conditions) k) costs 64)
+Inv-loop l costs n next₀ i₀ next i = (i ≤ n) × (length next ≡ 24) × ((k : ℕ) → k < i → entry next k ≡ greatest (jobAt l k .conditions) costs 64)
 
 abbrev μ-loop : tie.MeasureT-loop
 μ-loop l costs n next₀ i₀ next i = n - i

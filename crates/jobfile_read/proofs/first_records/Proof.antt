@@ -1,11 +1,12 @@
-use mathlib.Core.Path.{_≡_, ap, _∙_}
+use mathlib.Core.Path.{_≡_, ap, ap₂, _∙_}
 use native.Mathlib.Omega.{arith}
 use borrow.Author.Needs.{needs}
 use Prim.Native.Nat.{ℕ, _-_, _≤_}
+use Rattle.tables.specs.declared.Action.{Action}
 use Rattle.tables.specs.declared.Loaded.{Loaded}
+use Rattle.tables.specs.Tables.{withJob}
 use Rattle.tables.proofs.Lent.{none-tabled}
 use Rattle.jobfile.specs.Format.{firstOf}
-use Rattle.jobfile_read.specs.Steps.{withRecord}
 use Rattle.jobfile_read.proofs.Laws.{first-more}
 use Rattle.jobfile_read.proofs.first_records.Statement.{statement}
 use Rattle.jobfile_read.proofs.first_records.Tie as tie
@@ -17,7 +18,7 @@ abbrev μ-loop : tie.MeasureT-loop
 μ-loop records n room l₀ i₀ l i = n - i
 
 loop-again : tie.Need-loop-again Inv-loop μ-loop
-loop-again c = (omega arith, c .with-record .ensures ∙ ap (λ (x : Loaded). withRecord x (c .before .before .before .before .before .args .records .now) (c .before .before .loop .i)) (c .before .before .loop .inv .1) ∙ first-more _ _ _)
+loop-again c = (omega arith, c .with-job .ensures ∙ ap₂ (λ (x : Loaded) (a : Action). withJob x (c .before .before .before .loop .i) a) (c .before .before .before .loop .inv .1) (c .before .action-in .ensures) ∙ first-more _ _ _)
 
 returns : tie.Need-returns Inv-loop μ-loop
 returns c =
@@ -31,7 +32,8 @@ first-records-spec =
     Inv-loop
     μ-loop
     (λ c κs. search needs)
-    (λ c. (omega arith, c .no-jobs .ensures ∙ none-tabled _ _ _ _ _))
+    (λ c. (omega arith, c .no-jobs .ensures ∙ none-tabled _ _))
+    (λ c κs. omega arith)
     (λ c κs. omega arith)
     (λ c. search needs)
     (λ c. search needs)

@@ -3,13 +3,14 @@ use native.Mathlib.Omega.{arith}
 use mathlib.Core.Bool.{false}
 use Prim.Native.Nat.{ℕ}
 use Rattle.facts.proofs.Bools.{test-yes, test-no}
+use Rattle.rules.specs.Refusals.{accepted}
 use Rattle.rules.proofs.Refused.{if-hit, if-pass}
-use Rattle.tables.specs.Tables.{answer}
+use Rattle.tables.specs.Tables.{answer, callChecks}
 use Rattle.tables.specs.declared.Loaded.{Loaded}
 use Rattle.tables.proofs.Laws.{said}
 use mathlib.Core.Path.{_≡_}
 use Rattle.jobfile.specs.Format.{firstOf, tableIn}
-use Rattle.jobfile.specs.Calls.{problemChecks, recordChecks, whole}
+use Rattle.jobfile.specs.Calls.{recordChecks, whole}
 use Rattle.jobfile_read.proofs.Laws.{gives-stop, gives-no, gives}
 use borrow.Author.Needs.{needs}
 use Rattle.jobfile_read.proofs.read_records.Statement.{statement}
@@ -19,11 +20,11 @@ use Rattle.jobfile_read.proofs.read_records.Tie as tie
 table-is : (c : tie.After-first-records) → c .first-records .result ≡ tableIn (c .before .before .before .before .before .args .records .now) (c .before .before .before .before .before .args .q .jobs) (c .before .before .before .before .before .args .room)
 table-is c = c .first-records .ensures ∙ ap (λ (k : ℕ). firstOf (c .before .before .before .before .before .args .records .now) k (c .before .before .before .before .before .args .room)) (c .before .held .ensures)
 
-says : (c : tie.After-problem-fault)
-    → c .problem-fault .result ≡ answer (recordChecks (c .before .before .before .before .before .before .args .records .now) (c .before .before .before .before .before .before .args .q) (c .before .before .before .before .before .before .args .room)) 0 0
+says : (c : tie.After-call-fault)
+    → c .call-fault .result ≡ answer (recordChecks (c .before .before .before .before .before .before .args .records .now) (c .before .before .before .before .before .before .args .q) (c .before .before .before .before .before .before .args .room)) 0 0
 says c =
-    c .problem-fault .ensures .says
-    ∙ ap (λ (t : Loaded). answer (problemChecks false t (c .before .before .before .before .before .before .args .q)) 0 0) (table-is (c .before))
+    c .call-fault .ensures .says
+    ∙ ap (λ (t : Loaded). answer (callChecks false (c .before .before .before .before .before .before .args .q .bound) t (c .before .before .before .before .before .before .args .q) accepted) 0 0) (table-is (c .before))
     ∙ said 0 0 (if-pass _ 2 0 _ (test-no (c .before .before .before .before .any-spoilt .ensures) (c .before .before .before .if1 .left)))
 
 returns : tie.Need-returns
@@ -37,7 +38,7 @@ returns-2 c =
 returns-3 : tie.Need-returns-3
 returns-3 c =
     let a = c .before .before .before .before .before .before .before .before .args in
-    ap (λ (t : Loaded). whole (c .before .before .problem-fault .result) (a .q) t) (table-is (c .before .before .before))
+    ap (λ (t : Loaded). whole (c .before .before .call-fault .result) (a .q) t) (table-is (c .before .before .before))
     ∙ gives (a .q) _ (says (c .before .before)) (c .if2 .left)
 
 pub read-records-spec : {M : Type 1} → statement M

@@ -1,7 +1,4 @@
-use mathlib.Core.Path.{refl, ap, _∙_}
-use Prim.Native.Nat.{ℕ}
-use lib.ListN.{getD}
-use Rattle.bytes_le.specs.Little.{fields, over}
+use mathlib.Core.Path.{refl}
 use mathlib.Core.List.{[]}
 use Rattle.bytes_le.proofs.Fields.{put-fields}
 use Rattle.jobfile.specs.Format.{recordFields}
@@ -11,16 +8,16 @@ use Rattle.jobfile_write.proofs.put_record.Tie as tie
 
 returns : tie.Need-returns
 returns c =
-    let a = c .before .before .before .before .before .before .before .before .before .before .before .before .before .before .before .before .before .before .before .before .before .before .before .before .before .before .args in
-    put-fields (recordFields _ _ _ _) [] (a .out .now) 0 refl refl (
+    let a = c .before .before .before .before .before .before .before .before .before .before .before .before .before .before .before .before .before .before .before .before .before .before .args in
+    put-fields (recordFields (a .a)) [] (a .out .now) 0 refl refl (
       _,
-      c .before .before .before .before .before .before .before .before .before .before .before .before .before .before .before .before .before .before .before .before .before .before .put .ensures,
+      c .before .before .before .before .before .before .before .before .before .before .before .before .before .before .before .before .before .before .before .put .ensures,
       (
         _,
-        c .before .before .before .before .before .before .before .before .before .before .before .before .before .before .before .before .before .put2 .ensures,
+        c .before .before .before .before .before .before .before .before .before .before .before .before .before .before .before .put2 .ensures,
         (
           _,
-          c .before .before .before .before .before .before .before .before .before .before .before .before .put3 .ensures,
+          c .before .before .before .before .before .before .before .before .before .before .before .put3 .ensures,
           (
             _,
             c .before .before .before .before .before .before .put4 .ensures,
@@ -29,24 +26,15 @@ returns c =
         ),
       ),
     )
-    ∙ ap (λ (t : ℕ). over (fields (recordFields (getD (a .t1 .conditions) (a .i) 0) (getD (a .t1 .additions) (a .i) 0) (getD (a .t1 .deletions) (a .i) 0) t)) (a .out .now)) (c .before .before .before .before .before .before .before .before .wide .ensures)
 
 pub put-record-spec : {M : Type 1} → statement M
 put-record-spec =
     tie.close
     (tie.spec
-    (λ c. search needs)
-    (λ c. search needs)
+    (λ c κs. search needs)
+    (λ c κs. search needs)
     (λ c κs. search needs)
     (λ c. search needs)
-    (λ c. search needs)
-    (λ c κs. search needs)
-    (λ c. search needs)
-    (λ c. search needs)
-    (λ c κs. search needs)
-    (λ c. search needs)
-    (λ c. search needs)
-    (λ c κs. search needs)
     (λ c κs. search needs)
     (λ c κs. search needs)
     (λ c. search needs)

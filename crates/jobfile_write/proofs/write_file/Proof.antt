@@ -1,15 +1,14 @@
 use lib.Dec.{ltb}
 use Rattle.bytes_le.proofs.Laid.{length-laid, laid-then, tail-back}
 use Rattle.jobfile.specs.Format.{recordsOf, trailerOf, saveOf, lengthAfter}
-use Rattle.jobfile.proofs.Checks.{problem-accepts}
 use Rattle.jobfile.proofs.Saves.{length-records, length-trailer}
-use mathlib.Core.Path.{sym, ap, _∙_}
+use mathlib.Core.Path.{ap, _∙_}
 use native.Mathlib.Omega.{arith}
 use Prim.Native.Nat.{_+_, _*_, _≤_}
 use lib.ListN.{length}
-use borrow.Author.Tests.{ltb-false}
-use Rattle.facts.proofs.Bools.{test-yes, test-no}
+use Rattle.facts.proofs.Bools.{test-yes, test-no, at-most}
 use Rattle.rules.proofs.Refused.{if-hit, if-pass}
+use Rattle.tables.proofs.Calls.{call-checks, accepts-by}
 use Rattle.tables.specs.declared.Answer.{Answer}
 use Rattle.jobfile.specs.Calls.{writeChecks}
 use Rattle.jobfile_write.proofs.Laws.{writes-no, writes-yes}
@@ -24,8 +23,8 @@ short c = c .before .too-long .ensures .fails (c .if1 .left)
 -- where the checks passed, the save has room and few enough jobs
 room : (c : tie.Else2) → (lengthAfter (c .before .before .before .before .before .before .args .used) (c .before .before .before .before .before .before .args .q .jobs) ≤ length (c .before .before .before .before .before .before .args .buf .now)) × (c .before .before .before .before .before .before .args .q .jobs ≤ 24)
 room c =
-    let h = c .before .before .problem-fault .ensures .order (c .if2 .left) in
-    (ltb-false _ _ (h .0), h .1)
+    let h = c .before .before .call-fault .ensures .order (c .if2 .left) in
+    (at-most _ _ (h .room), h .few)
 
 returns : tie.Need-returns
 unfolding writeChecks
@@ -37,7 +36,7 @@ returns-2 : tie.Need-returns-2
 unfolding writeChecks
 returns-2 c =
     let a = c .before .before .before .before .before .before .args in
-    writes-no (a .l) (a .q) (a .used) (a .buf .now) (c .before .before .problem-fault .ensures .says) (if-pass _ 1 0 _ (test-no (c .before .before .before .before .too-long .ensures .says) (c .before .before .before .if1 .left))) (λ z. c .if2 .taken (ap (λ (x : Answer). x .number) (c .before .before .problem-fault .ensures .says) ∙ z))
+    writes-no (a .l) (a .q) (a .used) (a .buf .now) (c .before .before .call-fault .ensures .says) (if-pass _ 1 0 _ (test-no (c .before .before .before .before .too-long .ensures .says) (c .before .before .before .if1 .left))) (λ z. c .if2 .taken (ap (λ (x : Answer). x .number) (c .before .before .call-fault .ensures .says) ∙ z))
 
 add-done : tie.Need-add-done
 add-done c = let r = short (c .before .before .before .before .before .before .before .before .before .before .before) in omega arith
@@ -57,8 +56,8 @@ returns-3 c =
     let b = tail-back rs (a .used) xs (c .before .before .before .before .before .before .before .put-records .ensures) (omega arith) in
     writes-yes (a .l) (a .q) (a .used) xs (c .done .ensures)
     (if-pass _ 1 0 _ (test-no (c .before .before .before .before .before .before .before .before .before .before .before .before .before .too-long .ensures .says) (c .before .before .before .before .before .before .before .before .before .before .before .before .if1 .left))
-    ∙ problem-accepts (ltb (length xs) (lengthAfter (a .used) (a .q .jobs))) (a .l) (a .q)
-    (sym (ap (λ (x : Answer). x .number) (c .before .before .before .before .before .before .before .before .before .before .before .problem-fault .ensures .says)) ∙ c .before .before .before .before .before .before .before .before .before .if2 .left))
+    ∙ accepts-by (call-checks (ltb (length xs) (lengthAfter (a .used) (a .q .jobs))) (a .q .bound) (a .l) (a .q))
+    (c .before .before .before .before .before .before .before .before .before .before .before .call-fault .ensures .says) (c .before .before .before .before .before .before .before .before .before .if2 .left))
     (laid-then rs (trailerOf (a .q)) (a .used) xs end (omega arith) (omega arith) b
     (tail-back (trailerOf (a .q)) end _ (c .before .before .before .put-trailer .ensures)
     (omega (arith, length-trailer (a .q), ap length b, length-laid rs (a .used) xs (omega arith)))))

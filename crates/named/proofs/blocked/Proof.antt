@@ -28,7 +28,7 @@ unfolding any least
 loop-holds c = (omega arith, λ q p. no-fact p)
 
 loop-again : tie.Need-loop-again Inv-loop μ-loop
-loop-again c = (omega arith, λ q p. has-or (c .before .before .before .before .before .before .before .loop .w) _ p ∙ ap₂ (λ (x y : Bool). x || y) (c .before .before .before .before .before .before .before .loop .inv .1 q p) (c .word-if .ensures p ∙ blocks-of (c .before .before .before .before .before .before .before .before .before .args .t1) q (c .before .before .before .before .before .before .before .before .before .args .s .now) (c .before .before .before .before .before .before .before .before .before .args .c) p (c .before .before .before .before .before .before .before .before .before .args .from) (c .before .before .before .before .before .before .before .loop .d) (c .before .before .before .in-way .ensures)) ∙ sym (any-more _ (c .before .before .before .before .before .before .before .loop .d)))
+loop-again c = (omega arith, λ q p. has-or (c .before .before .before .before .before .before .loop .w) _ p ∙ ap₂ (λ (x y : Bool). x || y) (c .before .before .before .before .before .before .loop .inv .1 q p) (c .word-if .ensures p ∙ blocks-of (c .before .before .before .before .before .before .before .before .args .t1) q (c .before .before .before .before .before .before .before .before .args .s .now) (c .before .before .before .before .before .before .before .before .args .c) p (c .before .before .before .before .before .before .before .before .args .from) (c .before .before .before .before .before .before .loop .d) (c .before .before .in-way .ensures)) ∙ sym (any-more _ (c .before .before .before .before .before .before .loop .d)))
 
 returns : tie.Need-returns Inv-loop μ-loop
 returns c = let e : c .before .loop .d ≡ c .before .before .before .args .q .jobs = omega arith in λ p. rw e at (c .before .loop .inv .1 (c .before .before .before .args .q) p)
@@ -45,8 +45,6 @@ blocked-spec =
     (λ c. search needs)
     (λ c. search needs)
     (λ c κs. search needs)
-    (λ c. search needs)
-    (λ c. search needs)
     (λ c κs. search needs)
     (λ c. search needs)
     (λ c. search needs)

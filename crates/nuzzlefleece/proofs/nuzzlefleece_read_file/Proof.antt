@@ -50,9 +50,9 @@ use Rattle.jobfile_read.proofs.read_file as rd
 use Rattle.jobfile_read.proofs.read_file.Symbol as rd-def
 use Rattle.jobfile_read.proofs.read_file.Symbol.{name as #rd}
 use Rattle.jobfile_read.proofs.read_file.Met as rd-thm
-use Rattle.records.specs.declared.Action.{Action}
-use Rattle.records.specs.Records.{placed}
-use Rattle.records.proofs.Action as T
+use Rattle.tables.specs.declared.Action.{Action}
+use Rattle.tables.specs.Tables.{jobAt, filled}
+use Rattle.tables.proofs.Action as T
 use Rattle.records.proofs.scatter as sc
 use Rattle.records.proofs.scatter.Symbol as sc-def
 use Rattle.records.proofs.scatter.Symbol.{name as #sc}
@@ -163,7 +163,7 @@ module _ {M : Type 1} (𝓤 : URA M) (H : Heap 𝓤) (A : Atoms 𝓤) (W : Given
         owned ! G.the-row (Is G.the-row) ((LL.makes G.the-type G′.the-plain) 𝓤 H A) (r .table) (machG (r .table) ∷ []) it $ fjoin ! $ move ! (1 ∷ 0 ∷ []) $ fjoin ! $ done !
 
     abbrev Put : List Action → Type 0
-    Put zs = zs ≡ placed (r .table) (r .ask .jobs) ys
+    Put zs = zs ≡ filled (jobAt (r .table)) (r .ask .jobs) ys
 
     -- ---- the call of `told`
     abbrev to-tell : Td 𝓤 H A mem run .Ghost
@@ -176,7 +176,7 @@ module _ {M : Type 1} (𝓤 : URA M) (H : Heap 𝓤) (A : Atoms 𝓤) (W : Given
     said-tell a = exE 𝓤 _ (λ ws. snd∗ 𝓤 (sem 𝓤 H A (lasts td.ended tt (r, tt) ws)) (fact 𝓤 (a ≡ told r)))
 
     reads : (a : ReadAnswer) (zs : List Action) → Found r → Put zs → a ≡ told r → Reads file ys zs a
-    reads a zs e p t = record { says = t ∙ ap told e; records = p ∙ ap (λ (y : Read). placed (y .table) (y .ask .jobs) ys) e }
+    reads a zs e p t = record { says = t ∙ ap told e; records = p ∙ ap (λ (y : Read). filled (jobAt (y .table)) (y .ask .jobs) ys) e }
 
   exits : (a : ReadAnswer) (z : Val) (zs : List Action) → Reads file ys zs a → length zs ≡ length ys
       → ent 𝓤 (⋆ 𝓤 H A (‵ (L.the-row .own a (z ∷ [])) ∷ (‵ (flft κ′ q′) ⊛ ‵ ftrue) ∷ ‵ (finally T.the-row (d .name) zs) ∷ (‵ (flft κ q) ⊛ ‵ ftrue) ∷ ‵ Own ∷ [])) (Post z)

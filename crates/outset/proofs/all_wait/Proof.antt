@@ -1,3 +1,4 @@
+use Rattle.tables.specs.Tables.{jobAt}
 use Rattle.outset.specs.Outset.{Waits, AllWait}
 use Rattle.facts.proofs.Lists.{set-more}
 use mathlib.Core.Path.{_≡_}
@@ -9,15 +10,15 @@ use Rattle.outset.proofs.all_wait.Statement.{statement}
 use Rattle.outset.proofs.all_wait.Tie as tie
 
 abbrev Inv-loop : tie.InvT-loop
-Inv-loop s words est t₀ j₀ t j = (j ≤ 24) × (length t ≡ 24) × AllWait (s .rows) words est t j
+Inv-loop s l est t₀ j₀ t j = (j ≤ 24) × (length t ≡ 24) × AllWait (s .rows) l est t j
 
 abbrev μ-loop : tie.MeasureT-loop
-μ-loop s words est t₀ j₀ t j = 24 - j
+μ-loop s l est t₀ j₀ t j = 24 - j
 
 loop-again : tie.Need-loop-again Inv-loop μ-loop
 loop-again c =
-    let a = c .before .before .before .args in
-    (omega arith, search needs, set-more (λ (i x : ℕ). Waits (a .s .rows) (getD (a .t2) i 0) (getD (a .t3) i 0) x) (c .before .before .loop .t) (c .before .before .loop .j) _ 0 (omega arith) (c .before .before .loop .inv .2) (c .waits .ensures))
+    let a = c .before .before .before .before .args in
+    (omega arith, search needs, set-more (λ (i x : ℕ). Waits (a .s .rows) (jobAt (a .t2) i .conditions) (getD (a .t3) i 0) x) (c .before .before .before .loop .t) (c .before .before .before .loop .j) _ 0 (omega arith) (c .before .before .before .loop .inv .2) (c .waits .ensures))
 
 pub all-wait-spec : {M : Type 1} → statement M
 all-wait-spec =

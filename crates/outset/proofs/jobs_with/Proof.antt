@@ -9,10 +9,10 @@ use Rattle.outset.proofs.jobs_with.Statement.{statement}
 use Rattle.outset.proofs.jobs_with.Tie as tie
 
 abbrev Inv-loop : tie.InvT-loop
-Inv-loop words n p w₀ j₀ w j = (j ≤ 24) × Cols (Among words n p) w j
+Inv-loop l q adds p w₀ j₀ w j = (j ≤ 24) × Cols (Among l q adds p) w j
 
 abbrev μ-loop : tie.MeasureT-loop
-μ-loop words n p w₀ j₀ w j = 24 - j
+μ-loop l q adds p w₀ j₀ w j = 24 - j
 
 pub jobs-with-spec : {M : Type 1} → statement M
 jobs-with-spec =

@@ -1,4 +1,5 @@
 use mathlib.Core.Path.{_≡_, refl, _∙_}
+use Rattle.tables.specs.Tables.{jobAt}
 use Rattle.page.specs.Page.{textIf, jobLine}
 use borrow.Author.Needs.{needs}
 use native.Mathlib.Omega.{arith}
@@ -13,7 +14,7 @@ use Rattle.page.proofs.put_starts.Statement.{statement}
 use Rattle.page.proofs.put_starts.Tie as tie
 
 abbrev Inv-loop : tie.InvT-loop
-Inv-loop l s t at out₀ n next₀ j₀ out next j = (j ≤ n) × (length out ≡ length out₀) × Lays (18 * j) (inOrder (λ i. textIf (eqb (starts s i) t) (jobLine (starts s i) (starts s i + getD (l .durations) i 0) i)) j) at out₀ out next
+Inv-loop l s t at out₀ n next₀ j₀ out next j = (j ≤ n) × (length out ≡ length out₀) × Lays (18 * j) (inOrder (λ i. textIf (eqb (starts s i) t) (jobLine (starts s i) (starts s i + jobAt l i .duration) i)) j) at out₀ out next
 
 abbrev μ-loop : tie.MeasureT-loop
 μ-loop l s t at out₀ n next₀ j₀ out next j = n - j
@@ -23,7 +24,7 @@ unfolding inOrder
 loop-holds c = (omega arith, refl, lays-fit (lays-none _ _) (omega arith))
 
 loop-again : tie.Need-loop-again Inv-loop μ-loop
-loop-again c = let a = c .before .before .before .before .before .before .before .before .args in (omega arith, c .before .out .given ∙ c .before .before .before .before .before .loop .inv .1, lays-line (λ i. textIf (eqb (getD (a .s .now) i 0) (a .t)) (jobLine (getD (a .s .now) i 0) (getD (a .s .now) i 0 + getD (a .l .durations) i 0) i)) 18 (c .before .before .before .before .before .loop .j) (search needs) (c .before .before .before .before .before .loop .inv .2) (c .before .before .put-start .ensures))
+loop-again c = let a = c .before .before .before .before .before .before .before .before .args in (omega arith, c .before .out .given ∙ c .before .before .before .before .before .loop .inv .1, lays-line (λ i. textIf (eqb (getD (a .s .now) i 0) (a .t)) (jobLine (getD (a .s .now) i 0) (getD (a .s .now) i 0 + jobAt (a .l) i .duration) i)) 18 (c .before .before .before .before .before .loop .j) (search needs) (c .before .before .before .before .before .loop .inv .2) (c .before .before .put-start .ensures))
 
 returns : tie.Need-returns Inv-loop μ-loop
 returns c = let e : c .before .loop .j ≡ c .before .before .before .before .args .q .jobs = omega arith in rw e at (c .before .loop .inv .2)

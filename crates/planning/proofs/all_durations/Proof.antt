@@ -3,13 +3,14 @@ use native.Mathlib.Omega.{arith}
 use Prim.Native.Nat.{_+_, _-_, _*_, _≤_}
 use mathlib.Core.Path.{_≡_, refl}
 use lib.ListN.{getD}
+use Rattle.tables.specs.Tables.{jobAt}
 use Rattle.rules.proofs.Sums.{sum}
 use Rattle.planning.proofs.Laws.{sum-next}
 use Rattle.planning.proofs.all_durations.Statement.{statement}
 use Rattle.planning.proofs.all_durations.Tie as tie
 
 abbrev Inv-loop : tie.InvT-loop
-Inv-loop n l all₀ j₀ all j = (j ≤ n) × (all ≡ sum (λ a. getD (l .durations) a 0 + 0) j) × (all ≤ 65535 * j)
+Inv-loop n l all₀ j₀ all j = (j ≤ n) × (all ≡ sum (λ a. jobAt l a .duration + 0) j) × (all ≤ 65535 * j)
 
 abbrev μ-loop : tie.MeasureT-loop
 μ-loop n l all₀ j₀ all j = n - j
@@ -19,7 +20,7 @@ unfolding sum
 loop-holds c = (omega arith, refl, omega arith)
 
 loop-again : tie.Need-loop-again Inv-loop μ-loop
-loop-again c = (omega arith, omega (arith, c .wide .ensures .0, sum-next (λ a. getD (c .before .before .before .before .args .t1 .durations) a 0 + 0) (c .before .before .before .loop .j)), omega (arith, c .wide .ensures .1))
+loop-again c = (omega arith, omega (arith, c .wide .ensures .0, sum-next (λ a. jobAt (c .before .before .before .before .args .t1) a .duration + 0) (c .before .before .before .loop .j)), omega (arith, c .wide .ensures .1))
 
 pub all-durations-spec : {M : Type 1} → statement M
 all-durations-spec =

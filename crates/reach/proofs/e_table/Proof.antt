@@ -1,9 +1,9 @@
-use mathlib.Core.Path.{_≡_, subst}
-use mathlib.Core.List.{List}
-use Prim.Native.Nat.{ℕ, _-_, _≤_}
+use mathlib.Core.Path.{_≡_, sym, _∙_}
+use Prim.Native.Nat.{_-_, _≤_}
+use lib.ListN.{length-map}
 use native.Mathlib.Omega.{arith}
 use borrow.Author.Needs.{needs}
-use Rattle.tables.specs.declared.Loaded.{Loaded}
+use Rattle.tables.proofs.Action.{the-field as action}
 use Rattle.reach.specs.Rows.{EDone}
 use Rattle.reach.proofs.Words.{edone-none, edone-more}
 use Rattle.reach.proofs.e_table.Statement.{statement}
@@ -15,12 +15,12 @@ Inv-loop jobs s l t₀ i₀ t i = (i ≤ jobs) × EDone (s .rows) l i t
 abbrev μ-loop : tie.MeasureT-loop
 μ-loop jobs s l t₀ i₀ t i = jobs - i
 
-loop-again : tie.Need-loop-again Inv-loop μ-loop
-loop-again c = (omega arith, edone-more _ _ _ _ _ _ (omega arith) (c .before .before .before .before .before .before .loop .inv .1) (c .before .e-deletions .ensures) (c .with-deletions .ensures))
+-- a table by value holds 24 jobs
+loop-holds : tie.Need-loop-holds Inv-loop μ-loop
+loop-holds c = (omega arith, edone-none _ _ (sym (length-map (c .args .t1 .jobs) (action .into)) ∙ c .good .0 .1 .1 .0 .1 .0 .1))
 
--- the count at the end is that of the jobs
-ended : (rows : List ℕ) (l : Loaded) (k n : ℕ) (r : Loaded) → k ≡ n → EDone rows l k r → EDone rows l n r
-ended rows l k n r e d = subst (λ (j : ℕ). EDone rows l j r) e d
+loop-again : tie.Need-loop-again Inv-loop μ-loop
+loop-again c = (omega arith, edone-more _ _ _ _ _ _ (omega arith) (c .before .before .before .before .loop .inv .1) (c .before .e-job .ensures) (c .with-job .ensures))
 
 pub e-table-spec : {M : Type 1} → statement M
 e-table-spec =
@@ -28,11 +28,7 @@ e-table-spec =
     (tie.spec
     Inv-loop
     μ-loop
-    (λ c. (omega arith, edone-none _ _ (search needs)))
-    (λ c. search needs)
-    (λ c. search needs)
-    (λ c. search needs)
-    (λ c. search needs)
+    loop-holds
     (λ c. search needs)
     (λ c. search needs)
     (λ c κs. search needs)
@@ -40,4 +36,4 @@ e-table-spec =
     (λ c. search needs)
     (λ c. search needs)
     loop-again
-    (λ c. ended _ _ _ _ _ (omega arith) (c .before .loop .inv .1)))
+    (λ c. (let e : c .before .loop .i ≡ c .before .before .args .jobs = omega arith in rw e at (c .before .loop .inv .1))))

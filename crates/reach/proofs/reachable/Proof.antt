@@ -1,17 +1,8 @@
-use mathlib.Core.Path.{refl}
-use native.Mathlib.Omega.{arith}
 use borrow.Author.Needs.{needs}
-use Rattle.tables.specs.declared.Loaded.{Loaded}
-use Rattle.tables.specs.declared.Ask.{Ask}
 use Rattle.tables.specs.Tables.{problem}
-use Rattle.reach.specs.Rows.{Of}
 use Rattle.reach.proofs.Rounds.{Kept, missing, kept-first, kept-next, fewer, exact}
 use Rattle.reach.proofs.reachable.Statement.{statement}
 use Rattle.reach.proofs.reachable.Tie as tie
-
--- a table has its own words
-whole : (l : Loaded) (q : Ask) → Of l (problem l q)
-whole l q = record { conditions = λ i. refl; additions = λ i. refl; deletions = λ i. refl }
 
 abbrev Inv-loop : tie.InvT-loop
 Inv-loop l q s₀ s = Kept (problem l q) (s .rows)
@@ -20,13 +11,13 @@ abbrev μ-loop : tie.MeasureT-loop
 μ-loop l q s₀ s = missing (s .rows)
 
 returns : tie.Need-returns Inv-loop μ-loop
-returns c = exact (problem (c .before .before .before .before .before .args .l) (c .before .before .before .before .before .args .q)) (c .before .before .before .before .before .pre .1) _ _ (c .before .before .before .loop .inv) (c .before .before .round .ensures _ (whole (c .before .before .before .before .before .args .l) (c .before .before .before .before .before .args .q)) (c .before .before .before .before .before .pre .1) (omega arith)) (c .before .within .ensures .yea (c .if1 .taken))
+returns c = exact _ (c .before .before .before .before .before .pre .1) _ _ (c .before .before .before .loop .inv) (c .before .before .round .ensures) (c .before .within .ensures .yea (c .if1 .taken))
 
 loop-less : tie.Need-loop-less Inv-loop μ-loop
-loop-less c = fewer (problem (c .before .before .before .before .before .args .l) (c .before .before .before .before .before .args .q)) (c .before .before .before .before .before .pre .1) _ _ _ (c .before .before .before .loop .inv) (c .before .before .round .ensures _ (whole (c .before .before .before .before .before .args .l) (c .before .before .before .before .before .args .q)) (c .before .before .before .before .before .pre .1) (omega arith)) (c .before .within .ensures .nay (c .if1 .left))
+loop-less c = fewer _ (c .before .before .before .before .before .pre .1) _ _ _ (c .before .before .before .loop .inv) (c .before .before .round .ensures) (c .before .within .ensures .nay (c .if1 .left))
 
 loop-again : tie.Need-loop-again Inv-loop μ-loop
-loop-again c = kept-next (problem (c .before .before .before .before .before .args .l) (c .before .before .before .before .before .args .q)) (c .before .before .before .before .before .pre .1) _ _ _ (c .before .before .before .loop .inv) (c .before .before .round .ensures _ (whole (c .before .before .before .before .before .args .l) (c .before .before .before .before .before .args .q)) (c .before .before .before .before .before .pre .1) (omega arith))
+loop-again c = kept-next _ (c .before .before .before .before .before .pre .1) _ _ _ (c .before .before .before .loop .inv) (c .before .before .round .ensures)
 
 pub reachable-spec : {M : Type 1} → statement M
 reachable-spec =

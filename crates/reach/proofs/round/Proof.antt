@@ -1,27 +1,24 @@
-use mathlib.Core.Path.{_≡_, subst}
-use Prim.Native.Nat.{ℕ, _-_, _≤_}
+use mathlib.Core.Path.{_≡_}
+use Prim.Native.Nat.{_-_, _≤_}
 use native.Mathlib.Omega.{arith}
-use mathlib.Core.List.{List}
 use lib.ListN.{length}
 use borrow.Author.Needs.{needs}
-use Rattle.rules.specs.Table.{Problem, InOrder}
-use Rattle.reach.specs.Rows.{Of, Rounds}
-use Rattle.reach.proofs.Rounds.{round-none, round-at}
+use Rattle.rules.specs.Table.{InOrder}
+use Rattle.tables.specs.declared.Ask.{Ask}
+use Rattle.tables.specs.Tables.{problem}
+use Rattle.reach.specs.Rows.{Rounds}
+use Rattle.reach.proofs.Rounds.{round-none, round-more}
 use Rattle.reach.proofs.round.Statement.{statement}
 use Rattle.reach.proofs.round.Tie as tie
 
 abbrev Inv-loop : tie.InvT-loop
-Inv-loop jobs l t₀ i₀ t i = (i ≤ jobs) × ((length (t .rows) ≡ 64) × ((P : Problem) → Of l P → InOrder P → jobs ≤ P .count → Rounds P i (t₀ .rows) (t .rows)))
+Inv-loop l t₀ n i₀ t i = (i ≤ n) × ((length (t .rows) ≡ 64) × ((q : Ask) → InOrder (problem l q) → n ≤ q .jobs → Rounds (problem l q) i (t₀ .rows) (t .rows)))
 
 abbrev μ-loop : tie.MeasureT-loop
-μ-loop jobs l t₀ i₀ t i = jobs - i
+μ-loop l t₀ n i₀ t i = n - i
 
 loop-again : tie.Need-loop-again Inv-loop μ-loop
-loop-again c = (omega arith, (c .look .ensures .size, λ P o ok m. round-at P ok _ o _ _ _ _ (omega arith) (c .before .before .before .before .before .loop .inv .1 .1 P o ok m) (c .look .ensures)))
-
--- the count at the end is that of the jobs
-ended : (P : Problem) (k n : ℕ) (old new : List ℕ) → k ≡ n → Rounds P k old new → Rounds P n old new
-ended P k n old new e r = subst (λ (j : ℕ). Rounds P j old new) e r
+loop-again c = (omega arith, (c .look .ensures .size, λ q ok m. round-more _ ok _ _ _ _ (omega arith) (c .before .before .before .loop .inv .1 .1 q ok m) (c .look .ensures)))
 
 pub round-spec : {M : Type 1} → statement M
 round-spec =
@@ -29,15 +26,11 @@ round-spec =
     (tie.spec
     Inv-loop
     μ-loop
-    (λ c. (omega arith, (search needs, λ P o ok m. round-none P ok _ (search needs))))
-    (λ c. search needs)
-    (λ c. search needs)
-    (λ c. search needs)
-    (λ c. search needs)
+    (λ c. (omega arith, (search needs, λ q ok m. round-none _ ok _ (search needs))))
     (λ c. search needs)
     (λ c. search needs)
     (λ c κs. search needs)
     (λ c. search needs)
     (λ c. search needs)
     loop-again
-    (λ c. λ P o ok m. ended _ _ _ _ _ (omega arith) (c .before .loop .inv .1 .1 P o ok m)))
+    (λ c. (let e : c .before .loop .i ≡ c .before .before .args .q .jobs = omega arith in rw e at (c .before .loop .inv .1 .1 (c .before .before .args .q) (c .before .before .pre .1) (omega arith)))))

@@ -1,4 +1,4 @@
--- `records::load` meets its contract: a walk of its MIR, by hand, with a loop. In each turn one record is copied out of the slice, and `with_record` is called with it. The walk says nothing of what `with_record` does, nor of the arrays.
+-- `records::load` meets its contract: a walk of its MIR, by hand, with a loop. In each turn one record is copied out of the slice, and `with_job` is called with it. The walk says nothing of what `with_job` does, nor of the arrays.
 -- The invariant: after i turns _5 is i, and _4 holds a machine value of the first i records. The variant is how many turns are left.
 -- Assumes nothing.
 use mathlib.Core.Path.{_≡_, refl, sym, _∙_, ap, subst}
@@ -50,15 +50,15 @@ use denote.Triple.Clauses.{ensured, lasts}
 use denote.Triple.Table.{entered, cited}
 use denote.Triple.Walked.{says, Stays, stay-none-slice, walkOf, AllGo, goes-none-slice, Walks, ends-at, walked, walk-meets}
 use denote.Exit.{yes}
+use Rattle.tables.specs.declared.Action.{Action}
 use Rattle.tables.specs.declared.Loaded.{Loaded}
-use Rattle.tables.specs.Tables.{noJobs}
+use Rattle.tables.specs.Tables.{noJob, recordAt, tabled, noJobs, withJob}
 use Rattle.tables.proofs.Lent.{none-tabled, one-tabled}
 use Rattle.tables.proofs.Loaded as G
 use Rattle.tables.proofs.Loaded.Laws as G′
-use Rattle.records.specs.declared.Action.{Action}
-use Rattle.records.specs.Records.{noRecord, recordAt, firstOf, withRecord, loaded}
-use Rattle.records.proofs.Action as T
-use Rattle.records.proofs.Action.Laws as T′
+use Rattle.records.specs.Records.{loaded}
+use Rattle.tables.proofs.Action as T
+use Rattle.tables.proofs.Action.Laws as T′
 use Rattle.records.proofs.Laws.{in-room, few}
 use Rattle.tables.proofs.held as hld
 use Rattle.tables.proofs.held.Symbol as hld-def
@@ -68,10 +68,10 @@ use Rattle.tables.proofs.no_jobs as e0
 use Rattle.tables.proofs.no_jobs.Symbol as e0-def
 use Rattle.tables.proofs.no_jobs.Symbol.{name as #e0}
 use Rattle.tables.proofs.no_jobs.Met as e0-thm
-use Rattle.records.proofs.with_record as p
-use Rattle.records.proofs.with_record.Symbol as p-def
-use Rattle.records.proofs.with_record.Symbol.{name as #p}
-use Rattle.records.proofs.with_record.Met as p-thm
+use Rattle.tables.proofs.with_job as p
+use Rattle.tables.proofs.with_job.Symbol as p-def
+use Rattle.tables.proofs.with_job.Symbol.{name as #p}
+use Rattle.tables.proofs.with_job.Met as p-thm
 use Rattle.records.proofs.load.Key.{name as #f}
 use Rattle.records.proofs.load as f
 use Rattle.records.proofs.load.Statement as stated
@@ -123,7 +123,7 @@ module _ {M : Type 1} (𝓤 : URA M) (H : Heap 𝓤) (A : Atoms 𝓤) (W : Given
 
   -- the table after i turns
   abbrev Z : ℕ → Loaded
-  Z i = firstOf ys i k
+  Z i = tabled (recordAt ys) i k
 
   -- the machine value of record i
   abbrev mach : ℕ → Val
@@ -156,7 +156,7 @@ module _ {M : Type 1} (𝓤 : URA M) (H : Heap 𝓤) (A : Atoms 𝓤) (W : Given
   said-empty : (r : Loaded) → ent 𝓤 (ensured 𝓤 H A e0.ended (e0.clauses 𝓤 H A mem run) tt (k, tt) tt r) (fact 𝓤 (r ≡ noJobs k))
   said-empty r = exE 𝓤 _ (λ ws. snd∗ 𝓤 (sem 𝓤 H A (lasts e0.ended tt (k, tt) ws)) (fact 𝓤 (r ≡ noJobs k)))
 
-  -- ---- the call of `with_record` in the turn i, where _4 holds u
+  -- ---- the call of `with_job` in the turn i, where _4 holds u
   module _ (i : ℕ) (u : Val) where
     abbrev args : Loaded × (ℕ × (Action × Unit {0}))
     args = (Z i, (i, (recordAt ys i, tt)))
@@ -173,7 +173,7 @@ module _ {M : Type 1} (𝓤 : URA M) (H : Heap 𝓤) (A : Atoms 𝓤) (W : Given
         small = omega arith
 
     abbrev Found : Loaded → Type 0
-    Found r = r ≡ withRecord (Z i) i (recordAt ys i)
+    Found r = r ≡ withJob (Z i) i (recordAt ys i)
 
     said-put : (r : Loaded) → ent 𝓤 (ensured 𝓤 H A p.ended (p.clauses 𝓤 H A mem run) tt args tt r) (fact 𝓤 (Found r))
     said-put r = exE 𝓤 _ (λ ws. snd∗ 𝓤 (sem 𝓤 H A (lasts p.ended tt args ws)) (fact 𝓤 (Found r)))
@@ -233,12 +233,12 @@ module _ {M : Type 1} (𝓤 : URA M) (H : Heap 𝓤) (A : Atoms 𝓤) (W : Given
         assigns ! (bin ! (load ! (from ! (fld ! refl (stop !))) (look-in ! 10 (sub ! 0 refl (whole !)))) (load ! (from ! (stop !)) (look ! 7 refl)) tt) (from ! (stop !)) (init ! 8 refl (tt, tt)) $
         rewrite ! 8 (λ (p : ℕ). ‵ (fat fullShare tyPtr l₉ 0 (vptr b p))) (sym (place-is 32 o i)) refl $
         looks-slice ! tt T.the-row (Is T.the-row) (shows 𝓤 H A T.the-row) (LL.vals T.the-type T′.the-laws) (LL.tells T.the-type T′.the-laws) ((LL.copy T.the-type T′.the-copy) 𝓤 H A W) ys b o (λ q′.
-        elem-out ! T.the-row (Is T.the-row) (shows 𝓤 H A T.the-row) (LL.vals T.the-type T′.the-laws) (LL.tells T.the-type T′.the-laws) q′ ys i noRecord b o within (λ g.
+        elem-out ! T.the-row (Is T.the-row) (shows 𝓤 H A T.the-row) (LL.vals T.the-type T′.the-laws) (LL.tells T.the-type T′.the-laws) q′ ys i noJob b o within (λ g.
         -- [t[i]; what it owns; the others; what shuts; the fractured borrow; what t owns; _4; _5; _6; _7; _8; _9; _10; _1; _3; room for _0; …]
         let typed = LL.lawful T.the-type T′.the-laws 𝓤 H A W .typed (recordAt ys i) (mach i ∷ []) g .0 in
         assigns ! (of-opd ! (load ! (from ! (hop ! (look ! 11 refl) (stop !))) (look-raw ! 0 refl))) (from ! (stop !)) (init ! 12 refl typed) $
         assigns ! (of-opd ! (load ! (from ! (stop !)) (look ! 12 refl))) (from ! (stop !)) (init ! 8 refl typed) $
-        elem-back ! T.the-row q′ ys i noRecord (mach i ∷ []) b o within $ shuts-slice ! tt T.the-row q′ ys b o $ move ! (1 ∷ 0 ∷ []) $
+        elem-back ! T.the-row q′ ys i noJob (mach i ∷ []) b o within $ shuts-slice ! tt T.the-row q′ ys b o $ move ! (1 ∷ 0 ∷ []) $
         use0 W (raw (Put 𝓤 H A mem run .pre (to-put i u))) (asked-put i u few-i is g) $
         calls-at ! (fmOf 𝓤 H (W .laws) 𝓣) (Put 𝓤 H A mem run) known-put (to-put i u) (and-then ! (load ! (from ! (stop !)) (look ! 4 refl)) (and-then ! (load ! (from ! (stop !)) (look ! 5 refl)) (and-then ! (load ! (from ! (stop !)) (look ! 6 refl)) (no-more !)))) (λ u′.
         use1 W (later (some (λ (r : Loaded). (‵ ftrue ⊛ ‵ (G.the-row .own r (u′ ∷ []))) ⊛ raw (ensured 𝓤 H A p.ended (p.clauses 𝓤 H A mem run) tt (args i u) tt r)))) (id⊢ 𝓤 _) $ await ! tt $ pick ! (λ r.
@@ -247,7 +247,7 @@ module _ {M : Type 1} (𝓤 : URA M) (H : Heap 𝓤) (A : Atoms 𝓤) (W : Given
         land ! (from ! (stop !)) (store ! 4 refl (LL.lawful G.the-type G′.the-laws 𝓤 H A W .typed r (u′ ∷ []) is′ .0)) $ drop ! $
         assigns-last ! (bin ! (load ! (from ! (stop !)) (look ! 4 refl)) (lit ! tt) (record { fits = next-fits })) (from ! (stop !)) (store ! 4 refl (tt, record { fits = next-fits })) $
         forget ! 5 refl $ forget ! 6 refl $ forget ! 7 refl $ forget ! 8 refl $ forget ! 9 refl $
-        rewrite ! 4 (λ (j : ℕ). ‵ (fat fullShare word l₅ 0 (vint w64 j))) (add-one i) refl $ by ! (next u′ (subst (λ (z : Loaded). IsT z u′) (e ∙ one-tabled _ _ _ _ k i) is′))))))))
+        rewrite ! 4 (λ (j : ℕ). ‵ (fat fullShare word l₅ 0 (vint w64 j))) (add-one i) refl $ by ! (next u′ (subst (λ (z : Loaded). IsT z u′) (e ∙ one-tabled (recordAt ys) k i) is′))))))))
       where
         within : i < k
         within = omega (arith, few k n n-is .1)
@@ -315,7 +315,7 @@ module _ {M : Type 1} (𝓤 : URA M) (H : Heap 𝓤) (A : Atoms 𝓤) (W : Given
       -- what t owns is had twice, one is kept whole, and of the other the fractured borrow
       move ! (23 ∷ []) $ fsplit ! $ use1 W (‵ Own ⊛ ‵ Own) (shr-slice-copy 𝓤 H A W (named 0) κ T.the-row .twice s (v ∷ [])) $ split ! $ fsplit ! $ drop ! $ fsplit ! $ move ! (26 ∷ []) $ split ! $
       keep ! (3 ∷ 0 ∷ 4 ∷ 18 ∷ 16 ∷ 14 ∷ 12 ∷ 10 ∷ 8 ∷ 6 ∷ 24 ∷ 20 ∷ 26 ∷ 22 ∷ 27 ∷ 25 ∷ 23 ∷ 21 ∷ 19 ∷ 17 ∷ 15 ∷ 13 ∷ 11 ∷ 9 ∷ 7 ∷ []) $
-      by ! (loops 𝓣 known-put gn n n-is l₀ l₁ l₂ l₃ l₄ l₅ l₆ l₇ l₈ l₉ l₁₀ u (subst (λ (z : Loaded). IsT z u) (e ∙ none-tabled _ _ _ _ k) is)))))))))))))))))))))
+      by ! (loops 𝓣 known-put gn n n-is l₀ l₁ l₂ l₃ l₄ l₅ l₆ l₇ l₈ l₉ l₁₀ u (subst (λ (z : Loaded). IsT z u) (e ∙ none-tabled (recordAt ys) k) is)))))))))))))))))))))
 
 module _ {M : Type 1} (𝓤 : URA M) (H : Heap 𝓤) (A : Atoms 𝓤) (W : Given 𝓤 H A) (mem : Memory → SProp 𝓤) (run : Routine → Fun 𝓤) where
   walks : (𝓣 : Tables 𝓤 H) → Triple 𝓤 (𝓣 .C #hld) (Count 𝓤 H A mem run) → Triple 𝓤 (𝓣 .C #e0) (Empty 𝓤 H A mem run) → Triple 𝓤 (𝓣 .C #p) (Put 𝓤 H A mem run)
@@ -338,4 +338,4 @@ load-spec 𝓤 H 𝓜 𝓖 𝓡 =
     (meets 𝓤 H (𝓖 .A) (givenOf 𝓤 H 𝓜 𝓖) (𝓜 .mem) (𝓡 .run) (tablesOf 𝓤 H 𝓜 (tables 𝓤 H 𝓜 𝓡 code.env))
     (cited 𝓤 H (Count 𝓤 H (𝓖 .A) (𝓜 .mem) (𝓡 .run)) 𝓜 𝓡 code.env #hld hld-def.routine code.calls-tables·held (hld-thm.met 𝓤 H 𝓜 𝓖 𝓡))
     (cited 𝓤 H (Empty 𝓤 H (𝓖 .A) (𝓜 .mem) (𝓡 .run)) 𝓜 𝓡 code.env #e0 e0-def.routine code.calls-tables·no-jobs (e0-thm.met 𝓤 H 𝓜 𝓖 𝓡))
-    (cited 𝓤 H (Put 𝓤 H (𝓖 .A) (𝓜 .mem) (𝓡 .run)) 𝓜 𝓡 code.env #p p-def.routine code.calls-records·with-record (p-thm.met 𝓤 H 𝓜 𝓖 𝓡)))
+    (cited 𝓤 H (Put 𝓤 H (𝓖 .A) (𝓜 .mem) (𝓡 .run)) 𝓜 𝓡 code.env #p p-def.routine code.calls-tables·with-job (p-thm.met 𝓤 H 𝓜 𝓖 𝓡)))

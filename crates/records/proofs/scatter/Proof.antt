@@ -1,4 +1,4 @@
--- `records::scatter` meets its contract: a walk of its MIR, by hand, with a loop that stores. In each turn `record_of` is called, and the record that it gives is stored in the slice, whose borrow is opened and closed in the turn.
+-- `records::scatter` meets its contract: a walk of its MIR, by hand, with a loop that stores. In each turn `job_at` is called, and the record that it gives is stored in the slice, whose borrow is opened and closed in the turn.
 -- The invariant: after i turns _4 is i, and the slice holds the first i jobs. The variant is how many turns are left.
 -- Assumes nothing.
 use mathlib.Core.Path.{_≡_, refl, sym, _∙_, ap, subst}
@@ -51,18 +51,19 @@ use denote.Triple.Clauses.{ensured, lasts}
 use denote.Triple.Table.{entered, cited}
 use denote.Triple.Walked.{says, needs, Stays, stay-slice, stay-none, walkOf, AllGo, goes-slice, goes-none, Walks, ends-at, walked, walk-meets}
 use denote.Exit.{yes}
+use Rattle.tables.specs.declared.Action.{Action}
 use Rattle.tables.specs.declared.Loaded.{Loaded}
 use Rattle.tables.proofs.Loaded as G
 use Rattle.tables.proofs.Loaded.Laws as G′
-use Rattle.records.specs.declared.Action.{Action}
-use Rattle.records.specs.Records.{noRecord, recordOf, placed}
-use Rattle.records.proofs.Action as T
-use Rattle.records.proofs.Action.Laws as T′
-use Rattle.records.proofs.Laws.{in-room, none-placed, one-placed, length-placed}
-use Rattle.records.proofs.record_of as p
-use Rattle.records.proofs.record_of.Symbol as p-def
-use Rattle.records.proofs.record_of.Symbol.{name as #p}
-use Rattle.records.proofs.record_of.Met as p-thm
+use Rattle.tables.specs.Tables.{noJob, jobAt, filled}
+use Rattle.tables.proofs.Lent.{length-filled, filled-none, filled-next}
+use Rattle.tables.proofs.Action as T
+use Rattle.tables.proofs.Action.Laws as T′
+use Rattle.records.proofs.Laws.{in-room}
+use Rattle.tables.proofs.job_at as p
+use Rattle.tables.proofs.job_at.Symbol as p-def
+use Rattle.tables.proofs.job_at.Symbol.{name as #p}
+use Rattle.tables.proofs.job_at.Met as p-thm
 use Rattle.records.proofs.scatter.Key.{name as #f}
 use Rattle.records.proofs.scatter as f
 use Rattle.records.proofs.scatter.Statement as stated
@@ -111,12 +112,12 @@ module _ {M : Type 1} (𝓤 : URA M) (H : Heap 𝓤) (A : Atoms 𝓤) (W : Given
 
   -- the slice's elements after i turns
   abbrev Z : ℕ → List Action
-  Z i = placed g i ys
+  Z i = filled (jobAt g) i ys
 
   abbrev Post : Val → SProp 𝓤
   Post = walkOf 𝓤 H A f.ended stayed (f.clauses 𝓤 H A mem run) .post (((κ, tt), (q, tt), tt, x, at), tt)
 
-  -- ---- the call of `record_of` in the turn i
+  -- ---- the call of `job_at` in the turn i
   module _ (i : ℕ) where
     abbrev args : Loaded × (ℕ × Unit {0})
     args = (g, (i, tt))
@@ -132,7 +133,7 @@ module _ {M : Type 1} (𝓤 : URA M) (H : Heap 𝓤) (A : Atoms 𝓤) (W : Given
         small = omega arith
 
     abbrev Found : Action → Type 0
-    Found r = r ≡ recordOf g i
+    Found r = r ≡ jobAt g i
 
     said : (r : Action) → ent 𝓤 (ensured 𝓤 H A p.ended (p.clauses 𝓤 H A mem run) tt args tt r) (fact 𝓤 (Found r))
     said r = exE 𝓤 _ (λ ws. snd∗ 𝓤 (sem 𝓤 H A (lasts p.ended tt args ws)) (fact 𝓤 (Found r)))
@@ -140,9 +141,9 @@ module _ {M : Type 1} (𝓤 : URA M) (H : Heap 𝓤) (A : Atoms 𝓤) (W : Given
   exits : (i : ℕ) → i ≡ n → Room T.the-row (length ys) → Is G.the-row g (mach ∷ []) → ent 𝓤 (⋆ 𝓤 H A (‵ (fobs γ (codedHoleys T.the-row .code (heres T.the-row (Z i)))) ∷ ‵ (fbor κ (Held T.the-row (length (Z i)) b o γ)) ∷ ‵ (flft κ q) ∷ [])) (Post vunit)
   exits i e gn is =
       qed W (‵ (fobs γ (codedHoleys T.the-row .code (heres T.the-row (Z i)))) ∷ ‵ (fbor κ (Held T.the-row (length (Z i)) b o γ)) ∷ ‵ (flft κ q) ∷ []) ∵
-      suffices ! _ (ends-at 𝓤 H A f.ended stayed (f.clauses 𝓤 H A mem run) W (((κ, tt), (q, tt), tt, x, at), tt) vunit tt (Z i, (tt, (tt, tt))) (length-placed g i ys, (tt, (tt, tt)))) $ says ! (ap (λ (j : ℕ). placed g j ys) e) $
+      suffices ! _ (ends-at 𝓤 H A f.ended stayed (f.clauses 𝓤 H A mem run) W (((κ, tt), (q, tt), tt, x, at), tt) vunit tt (Z i, (tt, (tt, tt))) (length-filled (jobAt g) i ys, (tt, (tt, tt)))) $ says ! (ap (λ (j : ℕ). filled (jobAt g) j ys) e) $
       nothing ! $ move ! (3 ∷ 0 ∷ []) $ join ! $ frame ! $
-      fjoin ! $ pureI ! (at-slice T.the-row (s (Z i)) (at .0)) (tt, (tt, tt)) (ap (λ (m : ℕ). sliceVal (b, o) m ∷ []) (sym (length-placed g i ys)), subst (Room T.the-row) (sym (length-placed g i ys)) gn) $ fjoin ! $
+      fjoin ! $ pureI ! (at-slice T.the-row (s (Z i)) (at .0)) (tt, (tt, tt)) (ap (λ (m : ℕ). sliceVal (b, o) m ∷ []) (sym (length-filled (jobAt g) i ys)), subst (Room T.the-row) (sym (length-filled (jobAt g) i ys)) gn) $ fjoin ! $
       nothing ! $ owned ! usize (Is usize) (uint-makes 𝓤 H A W w64) n (vint w64 n ∷ []) (refl, n-fits) $ fjoin ! $ owned ! G.the-row (Is G.the-row) ((LL.makes G.the-type G′.the-plain) 𝓤 H A) g (mach ∷ []) is $ fjoin ! $ move ! (1 ∷ 0 ∷ []) $ fjoin ! $ frame ! $
       feqI ! (List Val) (vunit ∷ []) (vunit ∷ []) refl $ done !
 
@@ -194,13 +195,13 @@ module _ {M : Type 1} (𝓤 : URA M) (H : Heap 𝓤) (A : Atoms 𝓤) (W : Given
         assigns ! (bin ! (load ! (from ! (stop !)) (look ! 3 refl)) (lit ! tt) (record { fits = place-fits })) (from ! (stop !)) (init ! 6 refl (tt, record { fits = place-fits })) $
         assigns ! (bin ! (load ! (from ! (fld ! refl (stop !))) (look-in ! 8 (sub ! 0 refl (whole !)))) (load ! (from ! (stop !)) (look ! 6 refl)) tt) (from ! (stop !)) (init ! 7 refl (tt, tt)) $
         rewrite ! 7 (λ (p : ℕ). ‵ (fat fullShare tyPtr l₈ 0 (vptr b p))) (sym (place-is 32 o i)) refl $
-        opens-slice ! tt T.the-row (Z i) b o $ elem-out ! T.the-row (Is T.the-row) (shows 𝓤 H A T.the-row) (LL.vals T.the-type T′.the-laws) (LL.tells T.the-type T′.the-laws) fullShare (Z i) i noRecord b o within (λ _.
+        opens-slice ! tt T.the-row (Z i) b o $ elem-out ! T.the-row (Is T.the-row) (shows 𝓤 H A T.the-row) (LL.vals T.the-type T′.the-laws) (LL.tells T.the-type T′.the-laws) fullShare (Z i) i noJob b o within (λ _.
         -- [t[i]; what it owns; the others; the open borrow; obs; auth; _4; _5; _6; _7; _8; _1; …]
         assigns ! (of-opd ! (load ! (from ! (stop !)) (look ! 7 refl))) (from ! (hop ! (look ! 10 refl) (stop !))) (store-raw ! 0 refl typed) $
         move ! (1 ∷ []) $ drop ! $ owned ! T.the-row (Is T.the-row) ((LL.makes T.the-type T′.the-plain) 𝓤 H A) r (u ∷ []) is′ $ move ! (1 ∷ 0 ∷ []) $ elem-put ! T.the-row fullShare (Z i) i r (u ∷ []) b o within $
         closes-slice ! tt T.the-row (Z i) (set (Z i) i r) (length-set (Z i) i r) b o $
-        rewrite ! 0 (λ (zs : List Action). ‵ (fobs γ (codedHoleys T.the-row .code (heres T.the-row zs)))) (ap (set (Z i) i) e ∙ one-placed g i ys) refl $
-        rewrite ! 1 (λ (zs : List Action). ‵ (fbor κ (Held T.the-row (length zs) b o γ))) (ap (set (Z i) i) e ∙ one-placed g i ys) refl $
+        rewrite ! 0 (λ (zs : List Action). ‵ (fobs γ (codedHoleys T.the-row .code (heres T.the-row zs)))) (ap (set (Z i) i) e ∙ filled-next (jobAt g) i ys) refl $
+        rewrite ! 1 (λ (zs : List Action). ‵ (fbor κ (Held T.the-row (length zs) b o γ))) (ap (set (Z i) i) e ∙ filled-next (jobAt g) i ys) refl $
         assigns-last ! (bin ! (load ! (from ! (stop !)) (look ! 3 refl)) (lit ! tt) (record { fits = next-fits })) (from ! (stop !)) (store ! 3 refl (tt, record { fits = next-fits })) $
         forget ! 4 refl $ forget ! 5 refl $ forget ! 6 refl $ forget ! 7 refl $
         rewrite ! 3 (λ (j : ℕ). ‵ (fat fullShare word l₄ 0 (vint w64 j))) (add-one i) refl $ by ! k)))))
@@ -209,7 +210,7 @@ module _ {M : Type 1} (𝓤 : URA M) (H : Heap 𝓤) (A : Atoms 𝓤) (W : Given
         in-list = omega arith
 
         within : i < length (Z i)
-        within = omega (arith, length-placed g i ys)
+        within = omega (arith, length-filled (jobAt g) i ys)
 
         few-i : i < 24
         few-i = omega arith
@@ -258,8 +259,8 @@ module _ {M : Type 1} (𝓤 : URA M) (H : Heap 𝓤) (A : Atoms 𝓤) (W : Given
       -- [_8; …; _7; …; _6; …; _5; …; _4; …; _3; …; _2; …; _1; …; _0; …; the token; what t, g and n own]
       move ! (19 ∷ []) $ fsplit ! $ fsplit ! $ move ! (1 ∷ []) $ fsplit ! $ move ! (22 ∷ []) $ split ! $
       -- [the token; true; obs; the borrow; t's fact; g's and n's; _8; …]
-      rewrite ! 2 (λ (zs : List Action). ‵ (fobs γ (codedHoleys T.the-row .code (heres T.the-row zs)))) (none-placed g ys) refl $
-      rewrite ! 3 (λ (zs : List Action). ‵ (fbor κ (Held T.the-row (length zs) b o γ))) (none-placed g ys) refl $
+      rewrite ! 2 (λ (zs : List Action). ‵ (fobs γ (codedHoleys T.the-row .code (heres T.the-row zs)))) (filled-none (jobAt g) ys) refl $
+      rewrite ! 3 (λ (zs : List Action). ‵ (fbor κ (Held T.the-row (length zs) b o γ))) (filled-none (jobAt g) ys) refl $
       keep ! (2 ∷ 3 ∷ 0 ∷ 14 ∷ 12 ∷ 10 ∷ 8 ∷ 6 ∷ 20 ∷ 18 ∷ 16 ∷ 22 ∷ 23 ∷ 21 ∷ 19 ∷ 17 ∷ 15 ∷ 13 ∷ 11 ∷ 9 ∷ 7 ∷ []) $
       by ! (loops 𝓣 known gn is few l₀ l₁ l₂ l₃ l₄ l₅ l₆ l₇ l₈))))))))))
 
@@ -282,4 +283,4 @@ scatter-spec 𝓤 H 𝓜 𝓖 𝓡 =
     entered 𝓤 H (tripleOf 𝓤 H (𝓖 .A) f.signature (f.spec 𝓤 H (𝓖 .A) (𝓜 .mem) (𝓡 .run)))
     (tables 𝓤 H 𝓜 𝓡 code.env .C) (tables 𝓤 H 𝓜 𝓡 code.env .Λ) #f code.function (code.unfolded 𝓤 H 𝓜 𝓡)
     (meets 𝓤 H (𝓖 .A) (givenOf 𝓤 H 𝓜 𝓖) (𝓜 .mem) (𝓡 .run) (tablesOf 𝓤 H 𝓜 (tables 𝓤 H 𝓜 𝓡 code.env))
-    (cited 𝓤 H (Row 𝓤 H (𝓖 .A) (𝓜 .mem) (𝓡 .run)) 𝓜 𝓡 code.env #p p-def.routine code.calls-records·record-of (p-thm.met 𝓤 H 𝓜 𝓖 𝓡)))
+    (cited 𝓤 H (Row 𝓤 H (𝓖 .A) (𝓜 .mem) (𝓡 .run)) 𝓜 𝓡 code.env #p p-def.routine code.calls-tables·job-at (p-thm.met 𝓤 H 𝓜 𝓖 𝓡)))

@@ -4,7 +4,7 @@ use Prim.Native.Nat.{_-_, _≤_}
 use native.Mathlib.Omega.{arith}
 use borrow.Author.Count.{below-more}
 use Rattle.entries.specs.Entries.{entry}
-use Rattle.times.specs.Times.{Ends}
+use Rattle.times.specs.Steps.{Ends}
 use Rattle.times.proofs.Tests.{over, not-over}
 use Rattle.times.proofs.all_end.Statement.{statement}
 use Rattle.times.proofs.all_end.Tie as tie

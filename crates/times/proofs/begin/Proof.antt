@@ -5,7 +5,7 @@ use native.Mathlib.Omega.{arith}
 use lib.ListN.{length, length-set}
 use Rattle.entries.specs.Entries.{entry}
 use Rattle.entries.proofs.Laws.{stored}
-use Rattle.times.specs.Times.{Begins}
+use Rattle.times.specs.Steps.{Begins}
 use Rattle.times.proofs.begin.Statement.{statement}
 use Rattle.times.proofs.begin.Tie as tie
 

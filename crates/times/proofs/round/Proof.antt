@@ -7,7 +7,7 @@ use lib.ListN.{length}
 use denote.Ref.{now}
 use borrow.Author.Tests.{not-true, not-false}
 use Rattle.entries.specs.Entries.{entry}
-use Rattle.times.specs.Times.{Pushed, Behind}
+use Rattle.times.specs.Steps.{Pushed, Behind}
 use Rattle.times.proofs.Laws.{pushes-by, pushed-none, first-job, second-job, pair-none, pair-pushed, pair-behind}
 use Rattle.times.proofs.round.Statement.{statement}
 use Rattle.times.proofs.round.Tie as tie
@@ -21,16 +21,16 @@ abbrev μ-loop : tie.MeasureT-loop
 loop-holds : tie.Need-loop-holds Inv-loop μ-loop
 loop-holds c = (omega arith, search needs, pushed-none (c .before .args .t1) (c .before .args .q) (now (c .before .args .pairs)) (entry (c .before .args .t)), λ i h. absurd (omega arith))
 
-mul-push : tie.Need-mul-push Inv-loop μ-loop
+mul-push : tie.Need-mul-first Inv-loop μ-loop
 mul-push c = omega (arith, first-job (c .before .before .before .before .before .before .before .args .t1) (c .before .before .before .before .before .before .before .args .q) (now (c .before .before .before .before .before .before .before .args .pairs)) (c .before .before .before .before .before .before .before .pre) (c .before .before .before .before .before .loop .k) (c .before .before .before .before .loop-test .taken), c .before .before .job .ensures, c .before .before .before .before .before .before .before .pre .few)
 
-element-copy-out-push : tie.Need-element-copy-out-push Inv-loop μ-loop
+element-copy-out-push : tie.Need-element-copy-out-first Inv-loop μ-loop
 element-copy-out-push c = omega (arith, first-job (c .before .before .before .before .before .before .before .args .t1) (c .before .before .before .before .before .before .before .args .q) (now (c .before .before .before .before .before .before .before .args .pairs)) (c .before .before .before .before .before .before .before .pre) (c .before .before .before .before .before .loop .k) (c .before .before .before .before .loop-test .taken), c .before .before .job .ensures, c .before .before .before .before .before .before .before .pre .few)
 
-mul-push-2 : tie.Need-mul-push-2 Inv-loop μ-loop
+mul-push-2 : tie.Need-mul-second Inv-loop μ-loop
 mul-push-2 c = omega (arith, second-job (c .before .before .before .before .before .before .before .before .args .t1) (c .before .before .before .before .before .before .before .before .args .q) (now (c .before .before .before .before .before .before .before .before .args .pairs)) (c .before .before .before .before .before .before .before .before .pre) (c .before .before .before .before .before .before .loop .k) (c .before .before .before .before .before .loop-test .taken), c .before .job2 .ensures, c .before .before .before .before .before .before .before .before .pre .few)
 
-element-copy-out-push-2 : tie.Need-element-copy-out-push-2 Inv-loop μ-loop
+element-copy-out-push-2 : tie.Need-element-copy-out-second Inv-loop μ-loop
 element-copy-out-push-2 c = omega (arith, second-job (c .before .before .before .before .before .before .before .before .args .t1) (c .before .before .before .before .before .before .before .before .args .q) (now (c .before .before .before .before .before .before .before .before .args .pairs)) (c .before .before .before .before .before .before .before .before .pre) (c .before .before .before .before .before .before .loop .k) (c .before .before .before .before .before .loop-test .taken), c .before .job2 .ensures, c .before .before .before .before .before .before .before .before .pre .few)
 
 push-requires : tie.Need-push-requires Inv-loop μ-loop

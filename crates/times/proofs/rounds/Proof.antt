@@ -6,7 +6,7 @@ use denote.Ref.{now}
 use borrow.Author.Tests.{not-true, not-false}
 use Rattle.rules.proofs.Sums.{sum}
 use Rattle.entries.specs.Entries.{entry}
-use Rattle.times.specs.Times.{Pushed}
+use Rattle.times.specs.Steps.{Pushed}
 use Rattle.times.proofs.Laws.{pushed-none, round-none, round-last, round-less, round-more}
 use Rattle.times.proofs.rounds.Statement.{statement}
 use Rattle.times.proofs.rounds.Tie as tie

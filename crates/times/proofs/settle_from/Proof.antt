@@ -14,4 +14,9 @@ returns-2 c = found-late (c .before .before .before .before .args .l) (c .before
 
 pub settle-from-spec : {M : Type 1} → statement M
 settle-from-spec =
-    tie.close (tie.spec (λ c κs. search needs) (λ c κs. search needs) (λ c κs. search needs) returns returns-2)
+    tie.close (tie.spec
+    (λ c κs. search needs)
+    (λ c κs. search needs)
+    (λ c κs. search needs)
+    returns
+    returns-2)

@@ -7,9 +7,8 @@ use Rattle.turns.proofs.leads.Tie as tie
 
 returns-4 : tie.Need-returns-4
 returns-4 c e =
-    let g = c .before .before .before .before .before .before in
-    let begin = g .before .before .before .before in
-    leader-of (begin .args .t1) (begin .args .q) (g .find .result) (begin .pre .1) (c .is-turn .ensures e) (c .before .before .moves-to .ensures (not-false _ (c .before .if3 .left)))
+    let begin = c .before .before .before .before .before .before .before .before .before .before .before .before .args in
+    leader-of (begin .t1) (begin .q) (c .before .before .before .before .before .before .find .result) (c .before .before .before .before .before .before .before .before .before .before .before .before .pre .1) (c .is-turn .ensures e) (c .before .before .moves-to .ensures (not-false _ (c .before .if3 .left)))
 
 pub leads-spec : {M : Type 1} → statement M
 leads-spec =

@@ -1,4 +1,5 @@
 use Rattle.turns.specs.Checked.{SameJob}
+use Rattle.tables.specs.Tables.{jobAt}
 use Rattle.entries.specs.Entries.{entry}
 use mathlib.Core.Bool.{false≢true}
 use mathlib.Core.Path.{_≡_, sym, subst, _∙_}
@@ -10,12 +11,11 @@ use Rattle.turns.proofs.turns_job.Tie as tie
 
 returns-3 : tie.Need-returns-3
 returns-3 c e =
-    let k = c .before .before .before .before .before .before in
-    let a = k .before .before .args in
+    let a = c .before .before .before .before .before .before .before .before .before .before .args in
     record {
-      below = omega (arith, k .wide .ensures);
-      again = subst (λ (x : ℕ). entry (a .t3 .to) x ≡ a .j) (k .wide .ensures) (sym (c .before .before .before .wide2 .ensures) ∙ c .before .before .if2 .left);
-      same = subst (λ (x : ℕ). SameJob (a .l) (a .j) x (a .t3 .fact)) (k .wide .ensures) (c .same-job .ensures e);
+      below = omega (arith, c .before .before .before .before .before .before .before .before .wide .ensures);
+      again = subst (λ (x : ℕ). entry (a .t3 .to) x ≡ a .j) (c .before .before .before .before .before .before .before .before .wide .ensures) (sym (c .before .before .before .before .before .wide2 .ensures) ∙ c .before .before .before .before .if2 .left);
+      same = subst (λ (x : ℕ). SameJob (jobAt (a .t1) (a .j)) (jobAt (a .t1) x) (a .t3 .fact)) (c .before .before .before .before .before .before .before .before .wide .ensures) (c .same-job .ensures e);
     }
 
 pub turns-job-spec : {M : Type 1} → statement M
@@ -28,5 +28,9 @@ turns-job-spec =
     (λ c. search needs)
     (λ c κs. search needs)
     (λ c e. absurd (false≢true e))
+    (λ c. search needs)
+    (λ c. search needs)
+    (λ c. search needs)
+    (λ c. search needs)
     (λ c κs. search needs)
     returns-3)

@@ -22,7 +22,7 @@ loop-holds c = (omega arith, λ q p. refl)
 
 loop-again : tie.Need-loop-again Inv-loop μ-loop
 unfolding inPlan ends
-loop-again c = (omega arith, λ q p. finishes-more (problem (c .before .before .before .before .before .before .before .before .before .args .t1) q) (starts (c .before .before .before .before .before .before .before .before .before .args .s .now)) p (c .before .before .before .before .before .before .before .before .before .args .t) (c .before .before .before .before .before .before .before .loop .i) (has (c .before .before .before .before .before .before .before .before .before .args .before) p) (c .after-job .ensures p) (c .before .before .before .ends-at .ensures) (c .before .before .before .before .before .before .before .loop .inv .1 q p))
+loop-again c = (omega arith, λ q p. finishes-more (problem (c .before .before .before .before .before .before .before .args .t1) q) (starts (c .before .before .before .before .before .before .before .args .s .now)) p (c .before .before .before .before .before .before .before .args .t) (c .before .before .before .before .before .loop .i) (has (c .before .before .before .before .before .before .before .args .before) p) (c .after-job .ensures p) (c .before .ends-at .ensures) (c .before .before .before .before .before .loop .inv .1 q p))
 
 returns : tie.Need-returns Inv-loop μ-loop
 returns c = let e : (c .before .loop .i) ≡ (c .before .before .before .args .q .jobs) = omega arith in λ p. rw e at (c .before .loop .inv .1 (c .before .before .before .args .q) p)
@@ -39,10 +39,6 @@ after-finishes-spec =
     (λ c. search needs)
     (λ c. search needs)
     (λ c κs. search needs)
-    (λ c. search needs)
-    (λ c. search needs)
-    (λ c. search needs)
-    (λ c. search needs)
     (λ c κs. search needs)
     (λ c. search needs)
     (λ c. search needs)

@@ -5,7 +5,7 @@ use borrow.Author.Needs.{needs}
 use Rattle.rules.specs.Plans.{starts, holds}
 use Rattle.tables.specs.Tables.{problem}
 use Rattle.verdict.proofs.Steps.{moved, finished}
-use Rattle.verdict.specs.Offered.{FactsAt}
+use Rattle.verdict.specs.Steps.{FactsAt}
 use Rattle.verdict.proofs.facts_at.Statement.{statement}
 use Rattle.verdict.proofs.facts_at.Tie as tie
 

@@ -12,4 +12,7 @@ unfolding missing
 returns c = c .first-lacking .ensures ∙ lacking-same (λ p. holds (problem (c .before .before .before .args .l) (c .before .before .before .args .q)) (starts (c .before .before .before .args .s .now)) p (c .before .before .before .args .q .bound)) (c .before .before .before .args .q .goals) _ (c .before .facts-at .ensures)
 
 pub first-missing-spec : {M : Type 1} → statement M
-first-missing-spec = tie.close (tie.spec (λ c κs. search needs) (λ c κs. search needs) returns)
+first-missing-spec = tie.close (tie.spec
+    (λ c κs. search needs)
+    (λ c κs. search needs)
+    returns)

@@ -8,23 +8,23 @@ use Rattle.verdict.proofs.steps_fault.Tie as tie
 
 returns : tie.Need-returns
 unfolding planChecks
-returns c = c .refuse .ensures ∙ said 0 0 (at-hit _ _ 11 _ (c .before .before .first-late .ensures) (c .before .if1 .taken))
+returns c = c .refuse .ensures ∙ said 0 0 (at-hit _ _ 11 _ (c .before .before .first-step .ensures) (c .before .if1 .taken))
 
 returns-2 : tie.Need-returns-2
 unfolding planChecks
-returns-2 c = c .refuse2 .ensures ∙ said 0 0 (at-miss _ _ 11 _ (c .before .before .before .before .first-late .ensures) (c .before .before .before .if1 .left) ∙ at-hit _ _ 12 _ (c .before .before .first-clash .ensures) (c .before .if2 .taken))
+returns-2 c = c .refuse2 .ensures ∙ said 0 0 (at-miss _ _ 11 _ (c .before .before .before .before .first-step .ensures) (c .before .before .before .if1 .left) ∙ at-hit _ _ 12 _ (c .before .before .first-step2 .ensures) (c .before .if2 .taken))
 
 returns-3 : tie.Need-returns-3
 unfolding planChecks
-returns-3 c = c .refuse3 .ensures ∙ said 0 0 (at-miss _ _ 11 _ (c .before .before .before .before .before .before .first-late .ensures) (c .before .before .before .before .before .if1 .left) ∙ at-miss _ _ 12 _ (c .before .before .before .before .first-clash .ensures) (c .before .before .before .if2 .left) ∙ at-hit _ _ 13 _ (c .before .before .first-unready .ensures) (c .before .if3 .taken))
+returns-3 c = c .refuse3 .ensures ∙ said 0 0 (at-miss _ _ 11 _ (c .before .before .before .before .before .before .first-step .ensures) (c .before .before .before .before .before .if1 .left) ∙ at-miss _ _ 12 _ (c .before .before .before .before .first-step2 .ensures) (c .before .before .before .if2 .left) ∙ at-hit _ _ 13 _ (c .before .before .first-step3 .ensures) (c .before .if3 .taken))
 
 returns-4 : tie.Need-returns-4
 unfolding planChecks
-returns-4 c = c .refuse4 .ensures ∙ said 0 0 (at-miss _ _ 11 _ (c .before .before .before .before .before .before .before .before .first-late .ensures) (c .before .before .before .before .before .before .before .if1 .left) ∙ at-miss _ _ 12 _ (c .before .before .before .before .before .before .first-clash .ensures) (c .before .before .before .before .before .if2 .left) ∙ at-miss _ _ 13 _ (c .before .before .before .before .first-unready .ensures) (c .before .before .before .if3 .left) ∙ at-hit _ _ 14 _ (c .before .before .first-missing .ensures) (c .before .if4 .taken))
+returns-4 c = c .refuse4 .ensures ∙ said 0 0 (at-miss _ _ 11 _ (c .before .before .before .before .before .before .before .before .first-step .ensures) (c .before .before .before .before .before .before .before .if1 .left) ∙ at-miss _ _ 12 _ (c .before .before .before .before .before .before .first-step2 .ensures) (c .before .before .before .before .before .if2 .left) ∙ at-miss _ _ 13 _ (c .before .before .before .before .first-step3 .ensures) (c .before .before .before .if3 .left) ∙ at-hit _ _ 14 _ (c .before .before .first-missing .ensures) (c .before .if4 .taken))
 
 returns-5 : tie.Need-returns-5
 unfolding planChecks
-returns-5 c = c .done .ensures ∙ said 0 0 (at-miss _ _ 11 _ (c .before .before .before .before .before .before .before .before .first-late .ensures) (c .before .before .before .before .before .before .before .if1 .left) ∙ at-miss _ _ 12 _ (c .before .before .before .before .before .before .first-clash .ensures) (c .before .before .before .before .before .if2 .left) ∙ at-miss _ _ 13 _ (c .before .before .before .before .first-unready .ensures) (c .before .before .before .if3 .left) ∙ at-miss _ _ 14 _ (c .before .before .first-missing .ensures) (c .before .if4 .left))
+returns-5 c = c .done .ensures ∙ said 0 0 (at-miss _ _ 11 _ (c .before .before .before .before .before .before .before .before .first-step .ensures) (c .before .before .before .before .before .before .before .if1 .left) ∙ at-miss _ _ 12 _ (c .before .before .before .before .before .before .first-step2 .ensures) (c .before .before .before .before .before .if2 .left) ∙ at-miss _ _ 13 _ (c .before .before .before .before .first-step3 .ensures) (c .before .before .before .if3 .left) ∙ at-miss _ _ 14 _ (c .before .before .first-missing .ensures) (c .before .if4 .left))
 
 pub steps-fault-spec : {M : Type 1} → statement M
 steps-fault-spec =

@@ -11,7 +11,7 @@ unfolding unready inPlan
 returns c = simp (eq-eqb _ _ (c .if1 .taken))
 
 returns-2 : tie.Need-returns-2
-returns-2 c = unready-of (c .before .before .before .before .before .before .before .args .t1) (c .before .before .before .before .before .before .before .args .q) (c .before .before .before .before .before .before .before .args .s .now) (c .before .before .before .before .before .before .before .args .i) _ _ (c .before .before .before .before .if1 .left) (c .before .before .facts-at .ensures) (c .first-lacking .ensures)
+returns-2 c = unready-of (c .before .before .before .before .before .before .before .args .t1) (c .before .before .before .before .before .before .before .args .q) (c .before .before .before .before .before .before .before .args .s .now) (c .before .before .before .before .before .before .before .args .i) _ _ (c .before .before .before .before .if1 .left) (c .before .facts-at .ensures) (c .first-lacking .ensures)
 
 pub unready-spec : {M : Type 1} → statement M
 unready-spec =
@@ -22,8 +22,8 @@ unready-spec =
     returns
     (λ c. search needs)
     (λ c. search needs)
+    (λ c. search needs)
+    (λ c. search needs)
     (λ c κs. search needs)
-    (λ c. search needs)
-    (λ c. search needs)
     (λ c κs. search needs)
     returns-2)
