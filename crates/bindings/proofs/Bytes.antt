@@ -10,38 +10,39 @@ use native.Mathlib.Omega.{arith}
 use borrow.Author.Tests.{eq-eqb, ne-eqb, lt-ltb, le-ltb}
 use lib.Dec.{T, eqb, leb, ltb, eqb→eq, eqb-refl, lt→ltb, ltb→lt}
 use lib.ListN.{getD}
-use Rattle.facts.specs.Facts.{has, Word}
+use Rattle.facts.specs.Facts.{has}
+use Rattle.facts.specs.Words.{Word}
 use Rattle.facts.specs.Least.{least, any}
 use Rattle.facts.proofs.Bools.{and-l, and-r, and-of, or-cases, or-l, or-r, same, eqb-of, below-suc, passes}
 use Rattle.facts.proofs.Least.{least-is, any-of, least-hit, any-none, least-same, any-same}
 use Rattle.rules.specs.Table.{Problem}
 use Rattle.rules.specs.Plans.{Plan, starts, inPlan, interfere}
-use Rattle.rules.specs.Supports.{Consumer, job, end, startFits, jobFits, name, named, byteIf, byteOf}
+use Rattle.rules.specs.Supports.{Consumer, job, end, startFits, jobFits, name, named, byteIf, byteOf, wants, consumer, whoseRow, task, goal}
 use Rattle.rules.specs.Pairs.{isJob, feeds, binds}
 use Rattle.tables.specs.declared.Loaded.{Loaded}
 use Rattle.tables.specs.declared.Ask.{Ask}
 use Rattle.tables.specs.Tables.{jobAt, problem}
-use Rattle.verdict.specs.Steps.{chosen}
+use Rattle.verdict.specs.Steps.{startIn}
 use Rattle.named.specs.declared.Row.{Row}
-use Rattle.named.specs.Named.{inRow, wants, RowOf}
+use Rattle.named.specs.Named.{RowOf}
 use Rattle.named.proofs.Tests.{fit-yes, fit-no, no-fact, any-if}
-use Rattle.bindings.specs.Steps.{pick, rowByte}
+use Rattle.bindings.specs.Steps.{pickByte, rowByte}
 
 -- ── the byte of a fact ──
 
 byte-job : (A : Bool) (L n : ℕ) → (T A → L < n)
-    → byteIf true (name false A L) ≡ pick false (any (λ a. isJob a (name false A L)) n) (least (λ a. isJob a (name false A L)) n)
-unfolding byteIf name isJob pick
-byte-job false L n l = ap (λ (b : Bool). pick false b (least (λ a. false) n)) (any-none (λ a. false) n (λ i m h. h))
+    → byteIf true (name false A L) ≡ pickByte false (any (λ a. isJob a (name false A L)) n) (least (λ a. isJob a (name false A L)) n)
+unfolding byteIf name isJob pickByte
+byte-job false L n l = ap (λ (b : Bool). pickByte false b (least (λ a. false) n)) (any-none (λ a. false) n (λ i m h. h))
 byte-job true L n l =
-    ap₂ (λ (b : Bool) (a : ℕ). pick false b a) (passes (any (λ a. eqb a L) n) (any-of (λ a. eqb a L) n L (l tt) (eqb-refl L)))
+    ap₂ (λ (b : Bool) (a : ℕ). pickByte false b a) (passes (any (λ a. eqb a L) n) (any-of (λ a. eqb a L) n L (l tt) (eqb-refl L)))
     (least-is (λ a. eqb a L) n L (record { within = omega (arith, l tt); hit = λ m. eqb-refl L; first = λ i m h. omega (arith, eqb→eq i L h) }))
 
 byte-name : (w S : Bool) (J : ℕ → Bool) (n : ℕ)
     → byteIf w (name S (any J n) (least J n))
-    ≡ pick (w && S) (any (λ a. w && isJob a (name S (any J n) (least J n))) n) (least (λ a. w && isJob a (name S (any J n) (least J n))) n)
-unfolding byteIf name pick
-byte-name false S J n = ap (λ (b : Bool). pick false b (least (λ a. false) n)) (any-none (λ a. false) n (λ i m h. h))
+    ≡ pickByte (w && S) (any (λ a. w && isJob a (name S (any J n) (least J n))) n) (least (λ a. w && isJob a (name S (any J n) (least J n))) n)
+unfolding byteIf name pickByte
+byte-name false S J n = ap (λ (b : Bool). pickByte false b (least (λ a. false) n)) (any-none (λ a. false) n (λ i m h. h))
 byte-name true true J n = refl
 byte-name true false J n = byte-job (any J n) (least J n) n (λ h. least-hit J n h .0)
 
@@ -50,7 +51,7 @@ pub byte-of : (P : Problem) (s : Plan) (c : Consumer) (want : ℕ → Bool) (r :
 unfolding rowByte named
 byte-of P s c want r p h = sym
     (byte-name (want p) (startFits P s p c) (jobFits P s p c) (P .count)
-    ∙ ap₂ (λ (b : Bool) (f : Bool × ℕ). pick b (f .0) (f .1)) (sym (h .start p))
+    ∙ ap₂ (λ (b : Bool) (f : Bool × ℕ). pickByte b (f .0) (f .1)) (sym (h .start p))
     (ap₂ (λ (b : Bool) (a : ℕ). (b, a)) (sym (any-same _ _ (P .count) (λ a l. h .by a l p))) (sym (least-same _ _ (P .count) (λ a l. h .by a l p)))))
 
 -- ── a set of jobs filled job by job ──
@@ -84,31 +85,31 @@ passing-at g n w k h l = h k ∙ ap (λ (b : Bool). b && g k) (lt-ltb k n l)
 -- ── a row as the rules say it ──
 
 -- the jobs that give a fact in a job's row are the named supports of its conditions, if it is in
-pub feeds-of : (P : Problem) (bound : ℕ) (s : Plan) (b a : ℕ) (r : Row) (e : Bool) → e ≡ false → RowOf P s (inRow e P bound s b) (wants e P s b) r → a < P .count
+pub feeds-of : (P : Problem) (bound : ℕ) (s : Plan) (b a : ℕ) (r : Row) (e : Bool) → e ≡ false → RowOf P s (consumer P bound s (whoseRow e b)) (wants P s (whoseRow e b)) r → a < P .count
     → any (has (getD (r .by) a 0)) 64 ≡ (inPlan s b && feeds P s a b)
-unfolding inRow wants feeds
+unfolding whoseRow feeds
 feeds-of P bound s b a r true z h l = absurd (subst T z tt)
 feeds-of P bound s b a r false z h l =
     ap (λ (f : ℕ → Bool). any f 64) (fun-ext (λ p. h .by a l p ∙ and-assoc (inPlan s b) (has (P .conditions b) p) (isJob a (named P s p (job P s b)))))
     ∙ any-if (inPlan s b) (λ p. has (P .conditions b) p && isJob a (named P s p (job P s b))) 64
 
-pub byte-row : (P : Problem) (bound : ℕ) (s : Plan) (b p : ℕ) (r : Row) (e : Bool) → RowOf P s (inRow e P bound s b) (wants e P s b) r → rowByte r (P .count) p ≡ byteOf e P bound s b p
-unfolding inRow wants byteOf
-byte-row P bound s b p r true h = byte-of P s (end P bound) (wants true P s b) r p h
-byte-row P bound s b p r false h = byte-of P s (job P s b) (wants false P s b) r p h
+pub byte-row : (P : Problem) (bound : ℕ) (s : Plan) (b p : ℕ) (r : Row) (e : Bool) → RowOf P s (consumer P bound s (whoseRow e b)) (wants P s (whoseRow e b)) r → rowByte r (P .count) p ≡ byteOf P bound s (whoseRow e b) p
+unfolding whoseRow byteOf
+byte-row P bound s b p r true h = byte-of P s (end P bound) (wants P s goal) r p h
+byte-row P bound s b p r false h = byte-of P s (job P s b) (wants P s (task b)) r p h
 
 -- ── the byte that the code picks ──
 
-pub pick-start : {b : Bool} (j : Bool) (a : ℕ) → b ≡ true → 254 ≡ pick b j a
-unfolding pick
+pub pick-start : {b : Bool} (j : Bool) (a : ℕ) → b ≡ true → 254 ≡ pickByte b j a
+unfolding pickByte
 pick-start j a e = simp e
 
-pub pick-job : {b : Bool} (f : ℕ → Bool) (n r : ℕ) → b ≡ false → r ≡ least f n → r < n → r ≡ pick b (any f n) (least f n)
-unfolding pick any
+pub pick-job : {b : Bool} (f : ℕ → Bool) (n r : ℕ) → b ≡ false → r ≡ least f n → r < n → r ≡ pickByte b (any f n) (least f n)
+unfolding pickByte any
 pick-job f n r e h l = simp (e, sym h, lt-ltb r n l)
 
-pub pick-none : {b : Bool} (f : ℕ → Bool) (n r : ℕ) → b ≡ false → r ≡ least f n → n ≤ r → 255 ≡ pick b (any f n) (least f n)
-unfolding pick any
+pub pick-none : {b : Bool} (f : ℕ → Bool) (n r : ℕ) → b ≡ false → r ≡ least f n → n ≤ r → 255 ≡ pickByte b (any f n) (least f n)
+unfolding pickByte any
 pick-none f n r e h l = simp (e, sym h, le-ltb r n l)
 
 -- ── a binding pair as the code tests it ──
@@ -117,18 +118,18 @@ module _ (l : Loaded) (q : Ask) (s : List ℕ) (a b : ℕ) where
   -- a job that is out binds nothing
   pub binds-out : getD s b 0 ≡ 65535 → false ≡ binds (problem l q) (starts s) a b
   unfolding binds inPlan
-  binds-out e = simp (eq-eqb _ _ e) (sym (and-false (chosen (getD s a 0))))
+  binds-out e = simp (eq-eqb _ _ e) (sym (and-false (startIn (getD s a 0))))
 
   -- nor does a job that is not over in time
-  pub binds-no : {y : Bool} → y ≡ (chosen (getD s a 0) && leb (getD s a 0 + jobAt l a .duration) (getD s b 0)) → y ≡ false → false ≡ binds (problem l q) (starts s) a b
+  pub binds-no : {y : Bool} → y ≡ (startIn (getD s a 0) && leb (getD s a 0 + jobAt l a .duration) (getD s b 0)) → y ≡ false → false ≡ binds (problem l q) (starts s) a b
   unfolding binds inPlan
-  binds-no e t = simp add-zero (fit-no (chosen (getD s a 0)) (chosen (getD s b 0)) (leb (getD s a 0 + jobAt l a .duration) (getD s b 0)) _ (sym e ∙ t))
+  binds-no e t = simp add-zero (fit-no (startIn (getD s a 0)) (startIn (getD s b 0)) (leb (getD s a 0 + jobAt l a .duration) (getD s b 0)) _ (sym e ∙ t))
 
   -- another binds where the jobs interfere or the first is a named support
-  pub binds-yes : {y z : Bool} → (getD s b 0 ≡ 65535 → ⊥) → y ≡ (chosen (getD s a 0) && leb (getD s a 0 + jobAt l a .duration) (getD s b 0)) → y ≡ true
+  pub binds-yes : {y z : Bool} → (getD s b 0 ≡ 65535 → ⊥) → y ≡ (startIn (getD s a 0) && leb (getD s a 0 + jobAt l a .duration) (getD s b 0)) → y ≡ true
       → z ≡ (interfere (problem l q) a b || (inPlan (starts s) b && feeds (problem l q) (starts s) a b)) → z ≡ binds (problem l q) (starts s) a b
   unfolding binds inPlan
   binds-yes n e t h =
       h ∙ ap (λ (x : Bool). interfere (problem l q) a b || (not x && feeds (problem l q) (starts s) a b)) (ne-eqb _ _ n)
       ∙ simp (add-zero, ne-eqb _ _ n)
-      (fit-yes (chosen (getD s a 0)) true (leb (getD s a 0 + jobAt l a .duration) (getD s b 0)) (interfere (problem l q) a b || feeds (problem l q) (starts s) a b) (sym e ∙ t))
+      (fit-yes (startIn (getD s a 0)) true (leb (getD s a 0 + jobAt l a .duration) (getD s b 0)) (interfere (problem l q) a b || feeds (problem l q) (starts s) a b) (sym e ∙ t))

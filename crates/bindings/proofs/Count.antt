@@ -10,10 +10,12 @@ use native.Mathlib.Omega.{arith}
 use lib.Dec.{T}
 use lib.ListN.{length, length-append}
 use Rattle.facts.proofs.Bools.{or-at}
-use Rattle.rules.specs.Table.{Problem, InOrder}
+use Rattle.rules.specs.Table.{Problem}
+use Rattle.rules.specs.Premises.{InOrder}
 use Rattle.rules.specs.Plans.{Plan}
-use Rattle.rules.specs.Pairs.{binds, inOrder, pairIf, pairBytes}
-use Rattle.rules.proofs.Sums.{sum, sum-le}
+use Rattle.rules.specs.Pairs.{binds, joined, pairIf, pairBytes}
+use Rattle.rules.proofs.Sums.{sum-le}
+use Rattle.rules.specs.Sums.{sum}
 use Rattle.rules.proofs.Named.{binds-once}
 
 -- ── sums ──
@@ -39,19 +41,19 @@ square t (suc k) once self =
 
 -- ── lists ──
 
-pub length-in-order : (f : ℕ → List ℕ) (n : ℕ) → length (inOrder f n) ≡ sum (λ i. length (f i)) n
-unfolding inOrder sum
+pub length-in-order : (f : ℕ → List ℕ) (n : ℕ) → length (joined f n) ≡ sum (λ i. length (f i)) n
+unfolding joined sum
 length-in-order f zero = refl
-length-in-order f (suc k) = length-append (inOrder f k) (f k) ∙ omega (arith, length-in-order f k)
+length-in-order f (suc k) = length-append (joined f k) (f k) ∙ omega (arith, length-in-order f k)
 
 -- a longer part of the list is not shorter
-pub in-order-mono : (f : ℕ → List ℕ) (k n : ℕ) → k ≤ n → length (inOrder f k) ≤ length (inOrder f n)
-unfolding inOrder
+pub in-order-mono : (f : ℕ → List ℕ) (k n : ℕ) → k ≤ n → length (joined f k) ≤ length (joined f n)
+unfolding joined
 in-order-mono f k zero l = let e : k ≡ 0 = omega arith in rw e (omega arith)
 in-order-mono f k (suc n) l = go (or-at k (suc n) l) (λ m. in-order-mono f k n m)
   where
-    go : (k < suc n) ⊎ (k ≡ suc n) → (k ≤ n → length (inOrder f k) ≤ length (inOrder f n)) → length (inOrder f k) ≤ length (inOrder f n ++ f n)
-    go (inl m) r = omega (arith, r (omega arith), length-append (inOrder f n) (f n))
+    go : (k < suc n) ⊎ (k ≡ suc n) → (k ≤ n → length (joined f k) ≤ length (joined f n)) → length (joined f k) ≤ length (joined f n ++ f n)
+    go (inl m) r = omega (arith, r (omega arith), length-append (joined f n) (f n))
     go (inr e) r = rw e (omega arith)
 
 -- ── pairs ──
@@ -73,7 +75,7 @@ pub pairs-most : (P : Problem) (s : Plan) → InOrder P → length (pairBytes P 
 unfolding pairBytes
 pairs-most P s ok =
     let bytes : length (pairBytes P s) ≡ sum (λ a. sum (λ b. length (pairIf (binds P s a b) a b)) (P .count)) (P .count) =
-    length-in-order (λ a. inOrder (λ b. pairIf (binds P s a b) a b) (P .count)) (P .count)
+    length-in-order (λ a. joined (λ b. pairIf (binds P s a b) a b) (P .count)) (P .count)
     ∙ ap (λ (f : ℕ → ℕ). sum f (P .count)) (fun-ext (λ a. length-in-order (λ b. pairIf (binds P s a b) a b) (P .count))) in
     rw bytes
     (square (λ a b. length (pairIf (binds P s a b) a b)) (P .count) (λ a b l m. one-way (binds P s a b) (binds P s b a) a b b a (binds-once P s ok a b l m))
@@ -84,9 +86,9 @@ pub pairs-room : (P : Problem) (s : Plan) → InOrder P → P .count ≤ 24 → 
 pairs-room P s ok l = omega (arith, pairs-most P s ok, mul-le-mul-right (P .count) l)
 
 -- an entry of the list has its room in the whole
-pub entry-room : (f : ℕ → List ℕ) (k n : ℕ) → k < n → length (inOrder f k) + length (f k) ≤ length (inOrder f n)
-unfolding inOrder
-entry-room f k n l = omega (arith, in-order-mono f (suc k) n l, length-append (inOrder f k) (f k))
+pub entry-room : (f : ℕ → List ℕ) (k n : ℕ) → k < n → length (joined f k) + length (f k) ≤ length (joined f n)
+unfolding joined
+entry-room f k n l = omega (arith, in-order-mono f (suc k) n l, length-append (joined f k) (f k))
 
 pub pair-room : (b : Bool) (x y at n : ℕ) → b ≡ true → at + length (pairIf b x y) ≤ n → at + 2 ≤ n
 unfolding pairIf
@@ -94,6 +96,6 @@ pair-room true x y at n e h = h
 pair-room false x y at n e h = absurd (subst T (sym e) tt)
 
 -- the same as the loops see it: the place `next` stands behind the entries below k, and `yes` is the test of entry k
-pub next-room : (f : ℕ → List ℕ) (k n : ℕ) (ys : List ℕ) (at next room : ℕ) → k < n → ys ≡ f k → next ≡ at + length (inOrder f k) → at + length (inOrder f n) ≤ room
+pub next-room : (f : ℕ → List ℕ) (k n : ℕ) (ys : List ℕ) (at next room : ℕ) → k < n → ys ≡ f k → next ≡ at + length (joined f k) → at + length (joined f n) ≤ room
     → next + length ys ≤ room
 next-room f k n ys at next room l e h m = rw e (omega (arith, entry-room f k n l))

@@ -12,17 +12,17 @@ use lib.ListN.{length, getD, take, replicate}
 use lib.Seq.{getD-take}
 use Rattle.facts.specs.Facts.{has, after}
 use Rattle.facts.specs.Least.{least, further, any}
-use Rattle.rules.specs.Refusals.{Verdict, accepted, refuseIf, refuseAt}
+use Rattle.refusals.specs.Refusals.{Verdict, accepted, refuseIf, refuseAt}
 use Rattle.rules.specs.Table.{between, strays, jobStrays, undoes, jobChecks, tableChecks, boundCheck}
 use Rattle.rules.specs.Plans.{starts, inPlan, spoils, interfere, ends, afterIf, finishes, holds}
 use Rattle.rules.specs.Verdicts.{late, overlap, clashes, unready, missing, planChecks}
 use Rattle.rules.specs.Supports.{blocks, startFits, jobFits, name, named}
-use Rattle.rules.specs.Pairs.{isJob, feeds, binds, inOrder, pairIf, pairBytes}
+use Rattle.rules.specs.Pairs.{isJob, feeds, binds, joined, pairIf, pairBytes}
 use Rattle.tables.specs.declared.Action.{Action}
 use Rattle.tables.specs.declared.Loaded.{Loaded}
 use Rattle.tables.specs.declared.Ask.{Ask}
 use Rattle.tables.specs.declared.Answer.{Answer}
-use Rattle.tables.specs.Tables.{noJob, problem, answer, changed}
+use Rattle.tables.specs.Tables.{noJob, problem, answerOf, changed}
 use Rattle.tables.proofs.Lent.{filled-rest}
 use Rattle.verdict.specs.Offered.{offered}
 use Rattle.bindings.specs.Bindings.{pairVerdict, Pairs, written}
@@ -46,7 +46,7 @@ record Counted (xs old new : List ℕ) (r : Answer) : Type 0 where
 counted : (l : Loaded) (q : Ask) (s xs old new : List ℕ) (r : Answer) → 552 ≤ length old → offered false l q s accepted ≡ accepted
     → pairBytes (problem l q) (starts s) ≡ xs → Pairs l q s old new r → Counted xs old new r
 counted l q s xs old new r m v e h = record {
-  count = ap (λ (x : Answer). x .value) (h .says ∙ ap (λ (x : Verdict). answer x (length (pairBytes (problem l q) (starts s)) / 2) 0) w) ∙ ap (λ (ys : List ℕ). length ys / 2) e;
+  count = ap (λ (x : Answer). x .value) (h .says ∙ ap (λ (x : Verdict). answerOf x (length (pairBytes (problem l q) (starts s)) / 2) 0) w) ∙ ap (λ (ys : List ℕ). length ys / 2) e;
   behind = λ i k. ap (λ (ys : List ℕ). getD ys i 0) list ∙ filled-rest (λ i. getD xs i 0) (length xs) old i 0 k;
 }
   where
@@ -65,7 +65,7 @@ unfolding boundCheck tableChecks jobChecks between strays jobStrays undoes planC
 accepts3 = refl
 
 pairs3 : pairBytes (problem jobsU (askU 28 12)) (starts plan3) ≡ 0 ∷ 1 ∷ 0 ∷ 2 ∷ 0 ∷ 3 ∷ 3 ∷ 1 ∷ []
-unfolding pairBytes inOrder pairIf binds feeds isJob named name startFits jobFits blocks interfere spoils inPlan has any least further
+unfolding pairBytes joined pairIf binds feeds isJob named name startFits jobFits blocks interfere spoils inPlan has any least further
 pairs3 = refl
 
 -- a made-up count breaks the promise
@@ -81,7 +81,7 @@ unfolding boundCheck tableChecks jobChecks between strays jobStrays undoes planC
 accepts14 = refl
 
 pairs14 : pairBytes (problem jobsU (askU 12 14)) (starts plan14) ≡ 0 ∷ 1 ∷ 0 ∷ 2 ∷ []
-unfolding pairBytes inOrder pairIf binds feeds isJob named name startFits jobFits blocks interfere spoils inPlan has any least further
+unfolding pairBytes joined pairIf binds feeds isJob named name startFits jobFits blocks interfere spoils inPlan has any least further
 pairs14 = refl
 
 -- the three pairs of that plan in plan order break the promise, by their count

@@ -5,14 +5,14 @@ use mathlib.Core.List.{List}
 use Prim.Native.Nat.{ℕ, _+_, _*_, _/_}
 use lib.Dec.{ltb}
 use lib.ListN.{length, getD}
-use Rattle.rules.specs.Refusals.{Verdict, accepted}
+use Rattle.refusals.specs.Refusals.{Verdict, accepted}
 use Rattle.rules.specs.Plans.{starts}
 use Rattle.rules.specs.Supports.{supportByte}
 use Rattle.rules.specs.Pairs.{pairBytes}
 use Rattle.tables.specs.declared.Loaded.{Loaded}
 use Rattle.tables.specs.declared.Ask.{Ask}
 use Rattle.tables.specs.declared.Answer.{Answer}
-use Rattle.tables.specs.Tables.{problem, answer, filled, changed}
+use Rattle.tables.specs.Tables.{problem, answerOf, filled, changed}
 use Rattle.verdict.specs.Offered.{offered}
 
 -- the verdict on a call for supports: 64 bytes a job and 64 for End are wanted
@@ -21,7 +21,7 @@ supportVerdict l q s out = offered (ltb (length out) (64 * (q .jobs + 1))) l q s
 
 -- the answer to a call for supports, and the lent bytes after it
 pub record Supports (l : Loaded) (q : Ask) (s old new : List ℕ) (r : Answer) : Type 0 where
-  pub says : r ≡ answer (supportVerdict l q s old) 0 0
+  pub says : r ≡ answerOf (supportVerdict l q s old) 0 0
   pub table : new ≡ changed (supportVerdict l q s old) (filled (supportByte (problem l q) (q .bound) (starts s)) (64 * (q .jobs + 1)) old) old
 
 -- the verdict on a call for binding pairs: 552 bytes are wanted
@@ -34,5 +34,5 @@ written xs old = filled (λ i. getD xs i 0) (length xs) old
 
 -- the answer to a call for binding pairs, with their count, and the lent bytes after it
 pub record Pairs (l : Loaded) (q : Ask) (s old new : List ℕ) (r : Answer) : Type 0 where
-  pub says : r ≡ answer (pairVerdict l q s old) (length (pairBytes (problem l q) (starts s)) / 2) 0
+  pub says : r ≡ answerOf (pairVerdict l q s old) (length (pairBytes (problem l q) (starts s)) / 2) 0
   pub list : new ≡ changed (pairVerdict l q s old) (written (pairBytes (problem l q) (starts s)) old) old

@@ -9,7 +9,7 @@ use Rattle.facts.specs.Facts.{has}
 use Rattle.facts.specs.Least.{least, any}
 use Rattle.rules.specs.Table.{Problem}
 use Rattle.rules.specs.Plans.{Plan, inPlan}
-use Rattle.rules.specs.Pairs.{feeds, binds, inOrder, pairIf}
+use Rattle.rules.specs.Pairs.{feeds, binds, joined, pairIf}
 use Rattle.tables.specs.Tables.{filled}
 use Rattle.named.specs.declared.Row.{Row}
 use Rattle.bindings.specs.declared.Feeders.{Feeders}
@@ -18,13 +18,14 @@ use Rattle.bindings.specs.Bindings.{written}
 -- ── the bytes of a row ──
 
 -- the byte of a row: Start, else a job, else 255
-unfoldable pub pick : (start? job? : Bool) → ℕ → ℕ
-pick true b a = 254
-pick false true a = a
-pick false false a = 255
+unfoldable pub pickByte : (start? job? : Bool) → ℕ → ℕ
+pickByte true b a = 254
+pickByte false true a = a
+pickByte false false a = 255
 
+-- the byte of fact p in a row by words
 unfoldable pub rowByte : Row → (n p : ℕ) → ℕ
-rowByte r n p = pick (has (r .start) p) (any (λ a. has (getD (r .by) a 0) p) n) (least (λ a. has (getD (r .by) a 0) p) n)
+rowByte r n p = pickByte (has (r .start) p) (any (λ a. has (getD (r .by) a 0) p) n) (least (λ a. has (getD (r .by) a 0) p) n)
 
 -- the row is written from base on, behind the bytes of any table f below base
 abbrev pub FillsRow : Row → (n base : ℕ) → (before after : List ℕ) → Type 0
@@ -41,9 +42,9 @@ FeedersOf P s f = (b a : ℕ) → b < P .count → a < P .count → has (getD (f
 
 -- the pairs of job a with the jobs below n
 abbrev pub pairRow : Problem → Plan → (a n : ℕ) → List ℕ
-pairRow P s a n = inOrder (λ b. pairIf (binds P s a b) a b) n
+pairRow P s a n = joined (λ b. pairIf (binds P s a b) a b) n
 
 -- the list ys is written from the place `at` on, behind whatever list stands before it; r is the next place
-pub record Puts (ys : List ℕ) (at : ℕ) (before after : List ℕ) (r : ℕ) : Type 0 where
+pub record Appends (ys : List ℕ) (at : ℕ) (before after : List ℕ) (r : ℕ) : Type 0 where
   pub next : r ≡ at + length ys
   pub list : (xs old : List ℕ) → at ≡ length xs → before ≡ written xs old → after ≡ written (xs ++ ys) old

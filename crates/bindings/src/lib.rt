@@ -4,11 +4,9 @@ use tables::Answer;
 use tables::Ask;
 use tables::Loaded;
 ghost use mathlib.Core.Path.{_≡_};
-ghost use mathlib.Core.Bool.{_&&_, _||_};
 ghost use Prim.Native.Nat.{ℕ, _+_, _*_, _≤_, _<_};
-ghost use lib.Dec.{eqb};
 ghost use lib.ListN.{length, getD};
-ghost use Rattle.facts.specs.Facts.{has, Word};
+ghost use Rattle.facts.specs.Facts.{has};
 ghost use Rattle.facts.specs.Least.{least, any};
 ghost use Rattle.rules.specs.Plans.{starts};
 ghost use Rattle.rules.specs.Supports.{supportByte};
@@ -16,7 +14,7 @@ ghost use Rattle.rules.specs.Pairs.{binds, pairIf, pairBytes};
 ghost use Rattle.tables.specs.Tables.{problem, filled};
 ghost use Rattle.verdict.specs.Steps.{Given};
 ghost use Rattle.bindings.specs.Bindings.{Supports, Pairs};
-ghost use Rattle.bindings.specs.Steps.{rowByte, FillsRow, FeedersOf, pairRow, Puts};
+ghost use Rattle.bindings.specs.Steps.{rowByte, FillsRow, FeedersOf, pairRow, Appends};
 
 // For each job, the set of jobs that are named supports of its conditions.
 pub struct Feeders {
@@ -92,17 +90,6 @@ fn some_fact(w: u64) -> bool
     facts::lowest(w) < 64
 }
 
-// One job more in the set, where the test passes.
-fn with_if(w: u64, a: usize, yes: bool) -> u64
-    requires { ⌜ a < 64 ⌝ }
-    ensures { λ r. ⌜ Word (λ i. has w i || (yes && eqb i a)) r ⌝ }
-{
-    if yes {
-        return facts::with(w, a);
-    }
-    w
-}
-
 // The set of jobs that give a fact in the row.
 fn givers(row: Row, n: usize) -> u64
     requires { ⌜ n ≤ 24 ⌝ }
@@ -110,7 +97,7 @@ fn givers(row: Row, n: usize) -> u64
 {
     let mut w = 0u64;
     for a in 0..n {
-        w = with_if(w, a, some_fact(row.by[a]));
+        w = facts::with_if(w, a, some_fact(row.by[a]));
     }
     w
 }
@@ -146,7 +133,7 @@ fn binds(l: Loaded, q: Ask, s: &[u16], f: Feeders, a: usize, b: usize) -> bool
 // A pair is written behind what is there, where the test passes; the next place comes back.
 fn put_if(out: &mut [u8], at: usize, yes: bool, a: usize, b: usize) -> usize
     requires { ⌜ (a < 24) × (b < 24) × (at + length (pairIf yes a b) ≤ length (now out)) ⌝ }
-    ensures { λ r. ⌜ Puts (pairIf yes a b) at (now (out .entry)) (now (out .exit)) r ⌝ }
+    ensures { λ r. ⌜ Appends (pairIf yes a b) at (now (out .entry)) (now (out .exit)) r ⌝ }
 {
     if yes {
         out[at] = a as u8;
@@ -159,7 +146,7 @@ fn put_if(out: &mut [u8], at: usize, yes: bool, a: usize, b: usize) -> usize
 // The pairs with first job a are written behind what is there.
 fn put_row(l: Loaded, q: Ask, s: &[u16], f: Feeders, a: usize, at: usize, out: &mut [u8]) -> usize
     requires { ⌜ Given q (now s) × (a < q .jobs) × FeedersOf (problem l q) (starts (now s)) f × (at + length (pairRow (problem l q) (starts (now s)) a (q .jobs)) ≤ length (now out)) ⌝ }
-    ensures { λ r. ⌜ Puts (pairRow (problem l q) (starts (now (s .entry))) a (q .jobs)) at (now (out .entry)) (now (out .exit)) r ⌝ }
+    ensures { λ r. ⌜ Appends (pairRow (problem l q) (starts (now (s .entry))) a (q .jobs)) at (now (out .entry)) (now (out .exit)) r ⌝ }
 {
     let n = q.jobs;
     let mut next = at;
@@ -172,7 +159,7 @@ fn put_row(l: Loaded, q: Ask, s: &[u16], f: Feeders, a: usize, at: usize, out: &
 // All binding pairs are written; how many bytes they take comes back.
 pub fn put_pairs(l: Loaded, q: Ask, s: &[u16], out: &mut [u8]) -> usize
     requires { ⌜ Given q (now s) × (length (pairBytes (problem l q) (starts (now s))) ≤ length (now out)) ⌝ }
-    ensures { λ r. ⌜ Puts (pairBytes (problem l q) (starts (now (s .entry)))) 0 (now (out .entry)) (now (out .exit)) r ⌝ }
+    ensures { λ r. ⌜ Appends (pairBytes (problem l q) (starts (now (s .entry)))) 0 (now (out .entry)) (now (out .exit)) r ⌝ }
 {
     let n = q.jobs;
     let f = all_feeders(l, q, s);

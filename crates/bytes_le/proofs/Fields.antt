@@ -5,7 +5,8 @@ use mathlib.Core.List.{List, [], _∷_, _++_, append-assoc, append-nil}
 use Prim.Native.Nat.{ℕ, _+_, _^_, _<_}
 use native.Mathlib.Omega.{arith}
 use lib.ListN.{length, length-append}
-use Rattle.bytes_le.specs.Little.{little, number, fields, over, laid, Bytes}
+use Rattle.bytes_le.specs.Little.{little, number, fields, atFront, laid}
+use Rattle.bytes_le.specs.Steps.{Bytes}
 use Rattle.bytes_le.proofs.Numbers.{length-little}
 use Rattle.bytes_le.proofs.Stands.{Stands, stands-left, stands-right, stands-both, stands-number, number-stands}
 use Rattle.bytes_le.proofs.Laid.{over-then}
@@ -57,9 +58,9 @@ abbrev pub Put : List (ℕ × ℕ) → (off : ℕ) → (old new : List ℕ) → 
 Put [] off old new = new ≡ old
 Put ((k, v) ∷ fs) off old new = (next : List ℕ) × (next ≡ laid (little k v) off old) × Put fs (off + k) next new
 
-pub put-fields : (fs : List (ℕ × ℕ)) (w xs : List ℕ) (off : ℕ) {old new : List ℕ} → off ≡ length w → old ≡ over w xs → Put fs off old new → new ≡ over (w ++ fields fs) xs
+pub put-fields : (fs : List (ℕ × ℕ)) (w xs : List ℕ) (off : ℕ) {old new : List ℕ} → off ≡ length w → old ≡ atFront w xs → Put fs off old new → new ≡ atFront (w ++ fields fs) xs
 unfolding fields
-put-fields [] w xs off e h p = p ∙ h ∙ ap (λ (t : List ℕ). over t xs) (sym (append-nil w))
+put-fields [] w xs off e h p = p ∙ h ∙ ap (λ (t : List ℕ). atFront t xs) (sym (append-nil w))
 put-fields ((k, v) ∷ fs) w xs off e h (next, p, ps) =
     put-fields fs (w ++ little k v) xs (off + k) (omega (arith, length-append w (little k v), length-little k v)) (over-then w (little k v) xs off e h p) ps
-    ∙ ap (λ (t : List ℕ). over t xs) (append-assoc w (little k v) (fields fs))
+    ∙ ap (λ (t : List ℕ). atFront t xs) (append-assoc w (little k v) (fields fs))

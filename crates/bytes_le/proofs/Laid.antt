@@ -7,23 +7,23 @@ use native.Mathlib.Numerals.{add-one}
 use native.Mathlib.Omega.{arith}
 use lib.ListN.{length, take, drop, set, length-append, length-take, length-drop, take-append-drop}
 use lib.Seq.{drop-append-le, drop-cons, drop-drop, take-at, drop-at, set-at, append-snoc, take-append-add, drop-append-add, length-take-le}
-use Rattle.bytes_le.specs.Little.{little, over, laid}
+use Rattle.bytes_le.specs.Little.{little, atFront, laid}
 use Rattle.bytes_le.proofs.Numbers.{length-little, little-more}
 
-pub length-over : (w xs : List ℕ) → length w ≤ length xs → length (over w xs) ≡ length xs
+pub length-over : (w xs : List ℕ) → length w ≤ length xs → length (atFront w xs) ≡ length xs
 length-over w xs l = simp (length-append, length-drop) (omega arith)
 
 pub length-laid : (w : List ℕ) (at : ℕ) (xs : List ℕ) → at + length w ≤ length xs → length (laid w at xs) ≡ length xs
 length-laid w at xs l = simp (length-append, length-drop, length-take) (omega arith)
 
 -- one list of bytes laid behind another
-pub over-next : (v w xs : List ℕ) (at : ℕ) → at ≡ length v → laid w at (over v xs) ≡ over (v ++ w) xs
+pub over-next : (v w xs : List ℕ) (at : ℕ) → at ≡ length v → laid w at (atFront v xs) ≡ atFront (v ++ w) xs
 over-next v w xs at e =
-    ap₂ (λ (a b : List ℕ). a ++ over w b) (take-at v (drop (length v) xs) at (sym e)) (drop-at v (drop (length v) xs) at (sym e))
+    ap₂ (λ (a b : List ℕ). a ++ atFront w b) (take-at v (drop (length v) xs) at (sym e)) (drop-at v (drop (length v) xs) at (sym e))
     ∙ ap (λ (t : List ℕ). v ++ (w ++ t)) (drop-drop (length w) (length v) xs ∙ ap (λ (n : ℕ). drop n xs) (sym (length-append v w)))
     ∙ sym (append-assoc v w _)
 
-pub over-then : (v w xs : List ℕ) (at : ℕ) {ys zs : List ℕ} → at ≡ length v → ys ≡ over v xs → zs ≡ laid w at ys → zs ≡ over (v ++ w) xs
+pub over-then : (v w xs : List ℕ) (at : ℕ) {ys zs : List ℕ} → at ≡ length v → ys ≡ atFront v xs → zs ≡ laid w at ys → zs ≡ atFront (v ++ w) xs
 over-then v w xs at e h k = k ∙ ap (laid w at) h ∙ over-next v w xs at e
 
 -- the same from a place on
@@ -31,7 +31,7 @@ pub laid-then : (v w : List ℕ) (at : ℕ) (xs : List ℕ) (to : ℕ) {ys zs : 
     → zs ≡ laid (v ++ w) at xs
 laid-then v w at xs to {ys} e l h k =
     k ∙ ap₂ (λ (n : ℕ) (t : List ℕ). laid w n t) place h
-    ∙ ap₂ (λ (a b : List ℕ). a ++ over w b) (take-append-add p rest (length v)) (drop-append-add p rest (length v))
+    ∙ ap₂ (λ (a b : List ℕ). a ++ atFront w b) (take-append-add p rest (length v)) (drop-append-add p rest (length v))
     ∙ append-assoc p _ _
     ∙ ap (λ (t : List ℕ). p ++ t) (over-next v w (drop at xs) (length v) refl)
   where
@@ -39,19 +39,19 @@ laid-then v w at xs to {ys} e l h k =
     p = take at xs
 
     rest : List ℕ
-    rest = over v (drop at xs)
+    rest = atFront v (drop at xs)
 
     place : to ≡ length p + length v
     place = omega (arith, length-take-le at xs l)
 
 -- one byte more of a number
-pub over-more : (k v : ℕ) (xs : List ℕ) → k < length xs → set (over (little k v) xs) k (v / 256 ^ k % 256) ≡ over (little (k + 1) v) xs
+pub over-more : (k v : ℕ) (xs : List ℕ) → k < length xs → set (atFront (little k v) xs) k (v / 256 ^ k % 256) ≡ atFront (little (k + 1) v) xs
 over-more k v xs l =
     ap (λ (t : List ℕ). set (little k v ++ t) k b) (drop-cons xs (length (little k v)) 0 (omega (arith, length-little k v)))
     ∙ set-at (little k v) _ _ b k (length-little k v)
     ∙ sym (append-snoc (little k v) b _)
     ∙ ap (λ (t : List ℕ). little k v ++ (b ∷ []) ++ t) (ap (λ (n : ℕ). drop n xs) n)
-    ∙ ap (λ (w : List ℕ). over w xs) (sym (little-more k v) ∙ ap (λ (m : ℕ). little m v) (sym (add-one k)))
+    ∙ ap (λ (w : List ℕ). atFront w xs) (sym (little-more k v) ∙ ap (λ (m : ℕ). little m v) (sym (add-one k)))
   where
     b : ℕ
     b = v / 256 ^ k % 256
@@ -60,7 +60,7 @@ over-more k v xs l =
     n = omega (arith, length-append (little k v) (b ∷ []))
 
 -- the tail of a list is lent from place `at`, and comes back with w laid over it
-pub tail-back : (w : List ℕ) (at : ℕ) (xs : List ℕ) {ys : List ℕ} → ys ≡ over w (take (length xs - at) (drop at xs)) → at + length w ≤ length xs
+pub tail-back : (w : List ℕ) (at : ℕ) (xs : List ℕ) {ys : List ℕ} → ys ≡ atFront w (take (length xs - at) (drop at xs)) → at + length w ≤ length xs
     → take at xs ++ (ys ++ drop (length xs - at) (drop at xs)) ≡ laid w at xs
 tail-back w at xs {ys} e l =
     ap (λ (t : List ℕ). take at xs ++ t)

@@ -7,7 +7,8 @@ use native.Mathlib.Nat.{suc-add, pow-suc, pow-le-pow-right, div-one, div-div-eq-
 use native.Mathlib.Numerals.{add-one}
 use native.Mathlib.Omega.{arith}
 use lib.ListN.{length, getD}
-use Rattle.bytes_le.specs.Little.{little, number, Bytes}
+use Rattle.bytes_le.specs.Little.{little, number}
+use Rattle.bytes_le.specs.Steps.{Bytes}
 
 -- ── reading ──
 

@@ -3,9 +3,10 @@
 use mathlib.Core.Path.{_≡_, sym, _∙_}
 use mathlib.Core.List.{List}
 use Prim.Native.Nat.{ℕ}
-use Rattle.bytes_le.specs.Little.{little, laid, Reads}
+use Rattle.bytes_le.specs.Little.{little, laid}
+use Rattle.bytes_le.specs.Steps.{ReadsNumber}
 
-pub number-only : (size : ℕ) (xs : List ℕ) (at r s : ℕ) → Reads size xs at r → Reads size xs at s → r ≡ s
+pub number-only : (size : ℕ) (xs : List ℕ) (at r s : ℕ) → ReadsNumber size xs at r → ReadsNumber size xs at s → r ≡ s
 number-only size xs at r s x y = x .says ∙ sym (y .says)
 
 pub put-only : (value size at : ℕ) (old new new′ : List ℕ) → new ≡ laid (little size value) at old → new′ ≡ laid (little size value) at old → new ≡ new′

@@ -8,7 +8,8 @@ use native.Mathlib.Decide.{decLt}
 use native.Mathlib.Omega.{arith}
 use lib.ListN.{length, getD, take, drop, length-append, length-take, List·getD-append, List·getD-eq-default}
 use lib.Seq.{getD-append-add, getD-take, getD-drop, length-take-le, ext-getD}
-use Rattle.bytes_le.specs.Little.{little, number, over, laid, Bytes}
+use Rattle.bytes_le.specs.Little.{little, number, atFront, laid}
+use Rattle.bytes_le.specs.Steps.{Bytes}
 use Rattle.bytes_le.proofs.Numbers.{number-same, number-little, length-little}
 
 -- the bytes w stand in the list from place `at` on
@@ -59,7 +60,7 @@ stands-take w n at xs m h i l = getD-take n xs (at + i) 0 (omega arith) ∙ h i 
 pub stands-laid : (w : List ℕ) (at : ℕ) (xs : List ℕ) → at ≤ length xs → Stands w at (laid w at xs)
 stands-laid w at xs m i l =
     ap (λ (n : ℕ). getD (laid w at xs) (n + i) 0) (sym (length-take-le at xs m))
-    ∙ getD-append-add (take at xs) (over w (drop at xs)) i 0 ∙ List·getD-append w _ 0 i l
+    ∙ getD-append-add (take at xs) (atFront w (drop at xs)) i 0 ∙ List·getD-append w _ 0 i l
 
 -- bytes that fill the list are the list
 pub stands-all : (w xs : List ℕ) → length xs ≡ length w → Stands w 0 xs → xs ≡ w

@@ -1,8 +1,7 @@
 -- Numbers in bytes, little-endian: the lowest byte first. Bytes laid over a lent list.
 -- Assumes nothing.
-use mathlib.Core.Path.{_≡_}
 use mathlib.Core.List.{List, [], _∷_, _++_}
-use Prim.Native.Nat.{ℕ, zero, suc, _+_, _*_, _/_, _%_, _^_, _<_}
+use Prim.Native.Nat.{ℕ, zero, suc, _+_, _*_, _/_, _%_}
 use lib.ListN.{length, getD, take, drop}
 
 -- the bytes of a number
@@ -21,18 +20,9 @@ fields [] = []
 fields ((k, v) ∷ fs) = little k v ++ fields fs
 
 -- the bytes w laid over the first places of a list; the rest is as it was
-abbrev pub over : (w xs : List ℕ) → List ℕ
-over w xs = w ++ drop (length w) xs
+abbrev pub atFront : (w xs : List ℕ) → List ℕ
+atFront w xs = w ++ drop (length w) xs
 
 -- the same from place `at` on
 abbrev pub laid : (w : List ℕ) (at : ℕ) (xs : List ℕ) → List ℕ
-laid w at xs = take at xs ++ over w (drop at xs)
-
--- the list holds bytes
-abbrev pub Bytes : List ℕ → Type 0
-Bytes xs = (i : ℕ) → getD xs i 0 < 256
-
--- r is that number, and so many bytes hold it
-pub record Reads (size : ℕ) (xs : List ℕ) (at r : ℕ) : Type 0 where
-  pub says : r ≡ number size xs at
-  pub fits : r < 256 ^ size
+laid w at xs = take at xs ++ atFront w (drop at xs)

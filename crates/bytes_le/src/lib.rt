@@ -2,12 +2,13 @@
 ghost use mathlib.Core.Path.{_≡_};
 ghost use Prim.Native.Nat.{_+_, _≤_};
 ghost use lib.ListN.{length};
-ghost use Rattle.bytes_le.specs.Little.{little, over, laid, Reads};
+ghost use Rattle.bytes_le.specs.Little.{little, atFront, laid};
+ghost use Rattle.bytes_le.specs.Steps.{ReadsNumber};
 
 // The number of so many bytes from place at on.
 pub fn number(bytes: &[u8], at: usize, size: usize) -> u64
     requires { ⌜ (at + size ≤ length (now bytes)) × (size ≤ 8) ⌝ }
-    ensures { λ r. ⌜ Reads size (now (bytes .entry)) at r ⌝ }
+    ensures { λ r. ⌜ ReadsNumber size (now (bytes .entry)) at r ⌝ }
 {
     let end = at + size;
     let mut value = 0u64;
@@ -20,7 +21,7 @@ pub fn number(bytes: &[u8], at: usize, size: usize) -> u64
 // The number's lowest bytes, so many, over the first places.
 fn put_first(value: u64, size: usize, out: &mut [u8])
     requires { ⌜ size ≤ length (now out) ⌝ }
-    ensures { λ _. ⌜ now (out .exit) ≡ over (little size value) (now (out .entry)) ⌝ }
+    ensures { λ _. ⌜ now (out .exit) ≡ atFront (little size value) (now (out .entry)) ⌝ }
 {
     let mut left = value;
     for i in 0..size {

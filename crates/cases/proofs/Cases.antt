@@ -4,7 +4,7 @@ use mathlib.Core.Path.{refl}
 use native.Mathlib.Omega.{arith}
 use Rattle.facts.specs.Facts.{has, after}
 use Rattle.facts.specs.Least.{least, further, any}
-use Rattle.rules.specs.Refusals.{refuseIf, refuseAt}
+use Rattle.refusals.specs.Refusals.{refuseIf, refuseAt}
 use Rattle.rules.specs.Table.{between, strays, jobStrays, undoes, jobChecks, tableChecks, boundCheck}
 use Rattle.rules.specs.Plans.{inPlan, spoils, interfere, ends, afterIf, finishes, holds}
 use Rattle.rules.specs.Verdicts.{late, overlap, clashes, unready, missing, planChecks}

@@ -8,7 +8,8 @@ use lib.Dec.{T, eqb, ltb, eqb→eq, ltb→lt, T-not}
 use Rattle.facts.specs.Least.{any}
 use Rattle.facts.proofs.Bools.{and-of, certain}
 use Rattle.facts.proofs.Least.{any-of}
-use Rattle.rules.specs.Table.{Problem, InOrder}
+use Rattle.rules.specs.Table.{Problem}
+use Rattle.rules.specs.Premises.{InOrder}
 use Rattle.rules.specs.Plans.{Plan, inPlan, In, finish, Valid}
 use Rattle.rules.specs.Order.{rankOf, rank, Before, First, NoPlan}
 use Rattle.rules.proofs.Orders.{wider}

@@ -7,6 +7,7 @@ use lib.Dec.{eqb, ltb}
 use Rattle.facts.specs.Facts.{has}
 use Rattle.facts.specs.Least.{any}
 use Rattle.rules.specs.Table.{Problem}
+use Rattle.rules.specs.Supports.{Who, task, goal}
 
 -- job a is over before job b starts
 pub record Order : Type 0 where
@@ -21,11 +22,6 @@ pub record Known : Type 0 where
   pub due : ℕ → ℕ
   pub ins : List ℕ
   pub orders : List Order
-
--- who has a condition
-pub data Who : Type 0 where
-  theEnd : Who
-  aJob : ℕ → Who
 
 -- what is left to decide: a support of fact p, or on which side the deleter d stands, if it is in
 pub data Task : Type 0 where
@@ -69,18 +65,18 @@ exclude d k = record { due = λ i. dueIf (eqb i d) (k .due i); ins = k .ins; ord
 
 -- job a is over before who has the condition starts; End has no start
 unfoldable pub ahead : ℕ → Who → List Order
-ahead a theEnd = []
-ahead a (aJob b) = order a b ∷ []
+ahead a goal = []
+ahead a (task b) = order a b ∷ []
 
 -- who has the condition is over before job d starts; no job starts after End
 unfoldable pub behind : Who → ℕ → List Order
-behind theEnd d = []
-behind (aJob b) d = order b d ∷ []
+behind goal d = []
+behind (task b) d = order b d ∷ []
 
 -- the condition is d's own
 unfoldable pub isJob : Who → ℕ → Bool
-isJob theEnd d = false
-isJob (aJob b) d = eqb d b
+isJob goal d = false
+isJob (task b) d = eqb d b
 
 module _ (P : Problem) where
   -- from job i, which starts at t or later, orders lead to a job that ends too late, or back to o
@@ -96,7 +92,7 @@ module _ (P : Problem) where
 
   -- each condition of job a wants a support, unless a was in before
   unfoldable pub wants : Known → ℕ → List Task → List Task
-  wants k a ts = collect (λ p. has (P .conditions a) p && not (some (eqb a) (k .ins))) (want (aJob a)) (P .atoms) ts
+  wants k a ts = collect (λ p. has (P .conditions a) p && not (some (eqb a) (k .ins))) (want (task a)) (P .atoms) ts
 
   -- each other job that deletes p stands on one of its sides
   unfoldable pub guards : Who → (p : ℕ) → (sides : ℕ → List Order) → List Task → List Task
@@ -118,4 +114,4 @@ module _ (P : Problem) where
 
   -- no plan is valid in which each job that is in ends by its due: 40 tasks in a row are enough for the table
   unfoldable pub hopeless : (ℕ → ℕ) → Bool
-  hopeless due = refute 40 (collect (has (P .goals)) (want theEnd) (P .atoms) []) (record { due = due; ins = []; orders = [] })
+  hopeless due = refute 40 (collect (has (P .goals)) (want goal) (P .atoms) []) (record { due = due; ins = []; orders = [] })

@@ -11,11 +11,12 @@ use Rattle.facts.specs.Facts.{has}
 use Rattle.facts.specs.Least.{any}
 use Rattle.facts.proofs.Bools.{and-l, and-r, and-of, or-cases, certain, eqb-of}
 use Rattle.facts.proofs.Least.{any-of}
-use Rattle.rules.specs.Table.{Problem, InOrder, needs, deletes}
+use Rattle.rules.specs.Table.{Problem, needs}
+use Rattle.rules.specs.Premises.{InOrder, deletes}
 use Rattle.rules.specs.Plans.{Plan, In, finish, Over, Valid}
-use Rattle.rules.specs.Supports.{Consumer, job, end, Support, start, nobody, by}
+use Rattle.rules.specs.Supports.{Consumer, Support, start, nobody, by, Who, task, goal, consumer}
 use Rattle.rules.proofs.Supported.{Supports, Supported, backed}
-use Rattle.cases.proofs.Refute.{Order, order, Known, Who, theEnd, aJob, Task, want, guard, some, every, addIf, collect, include, dueIf, exclude, ahead, behind, isJob, chain, broken, wants, guards, step, refute, hopeless}
+use Rattle.cases.proofs.Refute.{Order, order, Known, Task, want, guard, some, every, addIf, collect, include, dueIf, exclude, ahead, behind, isJob, chain, broken, wants, guards, step, refute, hopeless}
 
 -- ── lists ──
 
@@ -68,8 +69,8 @@ module _ (P : Problem) (ok : InOrder P) (bound : ℕ) (z : Plan) (v : Valid P bo
 
   -- the plan has what is to be decided
   abbrev Open : Task → Type 0
-  Open (want theEnd p) = T (has (P .goals) p)
-  Open (want (aJob b) p) = In P z b × needs P b p
+  Open (want goal p) = T (has (P .goals) p)
+  Open (want (task b) p) = In P z b × needs P b p
   Open (guard d sides) = In P z d → Any Kept sides
 
   -- ── what is known ──
@@ -131,7 +132,7 @@ module _ (P : Problem) (ok : InOrder P) (bound : ℕ) (z : Plan) (v : Valid P bo
   wants-ok : (k : Known) (a : ℕ) (ts : List Task) → In P z a → All Open ts → All Open (wants P k a ts)
   unfolding wants
   wants-ok k a ts m hs =
-      collect-ok (λ p. has (P .conditions a) p && not (some (eqb a) (k .ins))) (want (aJob a)) (P .atoms) ts (λ p x. (m, and-l (has (P .conditions a) p) _ x)) hs
+      collect-ok (λ p. has (P .conditions a) p && not (some (eqb a) (k .ins))) (want (task a)) (P .atoms) ts (λ p x. (m, and-l (has (P .conditions a) p) _ x)) hs
 
   guards-ok : (w : Who) (p : ℕ) (sides : ℕ → List Order) (ts : List Task) → ((d : ℕ) → deletes P d p → (T (isJob w d) → ⊥) → In P z d → Any Kept (sides d))
       → All Open ts → All Open (guards P w p sides ts)
@@ -143,34 +144,33 @@ module _ (P : Problem) (ok : InOrder P) (bound : ℕ) (z : Plan) (v : Valid P bo
   -- ── who has a condition ──
 
   -- as the rules have it
-  abbrev consumer : Who → Consumer
-  consumer theEnd = end P bound
-  consumer (aJob b) = job P z b
+  abbrev consumes : Who → Consumer
+  consumes w = consumer P bound z w
 
   -- the support theorem
-  supported : (w : Who) (p : ℕ) → Open (want w p) → Supported P z p (consumer w)
-  supported theEnd p g = backed P ok bound z v .reached p g
-  supported (aJob b) p (m, n) = backed P ok bound z v .ready b p m n
+  supported : (w : Who) (p : ℕ) → Open (want w p) → Supported P z p (consumes w)
+  supported goal p g = backed P ok bound z v .reached p g
+  supported (task b) p (m, n) = backed P ok bound z v .ready b p m n
 
-  other : (w : Who) (d : ℕ) → In P z d → (T (isJob w d) → ⊥) → d ≢ consumer w .me
+  other : (w : Who) (d : ℕ) → In P z d → (T (isJob w d) → ⊥) → d ≢ consumes w .me
   unfolding isJob
-  other theEnd d m q e = omega (arith, m .below)
-  other (aJob b) d m q e = q (eqb-of e)
+  other goal d m q e = omega (arith, m .below)
+  other (task b) d m q e = q (eqb-of e)
 
-  ahead-ok : (w : Who) (p a : ℕ) → Open (want w p) → In P z a → finish P z a + consumer w .lag ≤ consumer w .at → All Kept (ahead a w)
+  ahead-ok : (w : Who) (p a : ℕ) → Open (want w p) → In P z a → finish P z a + consumes w .lag ≤ consumes w .at → All Kept (ahead a w)
   unfolding ahead
-  ahead-ok theEnd p a h m l = tt
-  ahead-ok (aJob b) p a (k, n) m l = ((m, k, l), tt)
+  ahead-ok goal p a h m l = tt
+  ahead-ok (task b) p a (k, n) m l = ((m, k, l), tt)
 
-  behind-ok : (w : Who) (p d : ℕ) → Open (want w p) → In P z d → consumer w .till + consumer w .lag ≤ z d → Any Kept (behind w d)
+  behind-ok : (w : Who) (p d : ℕ) → Open (want w p) → In P z d → consumes w .till + consumes w .lag ≤ z d → Any Kept (behind w d)
   unfolding behind
-  behind-ok theEnd p d h m l = omega (arith, v .inside d m, ok .long d (m .below))
-  behind-ok (aJob b) p d (k, n) m l = inl (k, m, l)
+  behind-ok goal p d h m l = omega (arith, v .inside d m, ok .long d (m .below))
+  behind-ok (task b) p d (k, n) m l = inl (k, m, l)
 
   -- ── one task more ──
 
   module _ (r : List Task → Known → Bool) (r-ok : (ts : List Task) (k : Known) → T (r ts k) → All Open ts → Fits k → ⊥) where
-    want-ok : (w : Who) (p : ℕ) (ts : List Task) (k : Known) → Open (want w p) → (x : Support) → Supports P z p (consumer w) x
+    want-ok : (w : Who) (p : ℕ) (ts : List Task) (k : Known) → Open (want w p) → (x : Support) → Supports P z p (consumes w) x
         → T (step P r (want w p ∷ ts) k) → All Open ts → Fits k → ⊥
     unfolding step
     want-ok w p ts k h start (o, c) y hs f =
@@ -178,7 +178,7 @@ module _ (P : Problem) (ok : InOrder P) (bound : ℕ) (z : Plan) (v : Valid P bo
         (unless (has (P .opening) p) _ (and-l (not (has (P .opening) p) || r (guards P w p (behind w) ts) k) _ y) o)
         (guards-ok w p (behind w) ts (λ d x q m. side d m (c d m x (other w d m q))) hs) f
       where
-        side : (d : ℕ) → In P z d → (finish P z d + 0 ≤ 0) ⊎ (consumer w .till + consumer w .lag ≤ z d) → Any Kept (behind w d)
+        side : (d : ℕ) → In P z d → (finish P z d + 0 ≤ 0) ⊎ (consumes w .till + consumes w .lag ≤ z d) → Any Kept (behind w d)
         side d m (inl l) = absurd (omega (arith, ok .long d (m .below)))
         side d m (inr l) = behind-ok w p d h m l
     want-ok w p ts k h nobody g y hs f = g
@@ -198,7 +198,7 @@ module _ (P : Problem) (ok : InOrder P) (bound : ℕ) (z : Plan) (v : Valid P bo
         given : ℕ → Bool
         given a = r (left a) (more a)
 
-        side : (d : ℕ) → In P z d → (finish P z d + P .gap ≤ z a) ⊎ (consumer w .till + consumer w .lag ≤ z d) → Any Kept (order d a ∷ behind w d)
+        side : (d : ℕ) → In P z d → (finish P z d + P .gap ≤ z a) ⊎ (consumes w .till + consumes w .lag ≤ z d) → Any Kept (order d a ∷ behind w d)
         side d m (inl l) = inl (m, g .there, l)
         side d m (inr l) = inr (behind-ok w p d h m l)
 
@@ -229,4 +229,4 @@ module _ (P : Problem) (ok : InOrder P) (bound : ℕ) (z : Plan) (v : Valid P bo
   -- so no valid plan keeps the dues
   pub hopeless-ok : (due : ℕ → ℕ) → ((i : ℕ) → In P z i → finish P z i ≤ due i) → T (hopeless P due) → ⊥
   unfolding hopeless
-  hopeless-ok due h y = refute-ok 40 _ _ y (collect-ok (has (P .goals)) (want theEnd) (P .atoms) [] (λ p g. g) tt) (record { due = h; ins = tt; orders = tt })
+  hopeless-ok due h y = refute-ok 40 _ _ y (collect-ok (has (P .goals)) (want goal) (P .atoms) [] (λ p g. g) tt) (record { due = h; ins = tt; orders = tt })

@@ -11,18 +11,20 @@ use lib.IntN.{ℤ}
 use Rattle.facts.specs.Least.{any}
 use Rattle.facts.proofs.Bools.{and-l, and-r, certain}
 use Rattle.facts.proofs.Least.{any-of}
-use Rattle.rules.specs.Refusals.{Verdict, accepted, refused}
-use Rattle.rules.specs.Table.{Problem, InOrder, tableChecks, boundCheck}
+use Rattle.refusals.specs.Refusals.{Verdict, accepted, refused}
+use Rattle.rules.specs.Table.{Problem, tableChecks, boundCheck}
+use Rattle.rules.specs.Premises.{InOrder}
 use Rattle.rules.specs.Plans.{Plan, inPlan, In, finish, interfere, Valid}
 use Rattle.rules.specs.Verdicts.{planChecks}
 use Rattle.rules.specs.Order.{First, LeastBound, NoPlan, Planned, Bounded}
-use Rattle.rules.proofs.Refused.{Checks, then-checks, table-checks, bound-checks, went-on, stopped, if-pass}
+use Rattle.refusals.proofs.Refused.{Checks, then-checks, went-on, stopped, if-pass}
+use Rattle.rules.proofs.CheckLists.{table-checks, bound-checks}
 use Rattle.rules.proofs.Checked.{in-order}
 use Rattle.rules.proofs.Judged.{judged}
 use Rattle.rules.proofs.Orders.{wider, planned-only, bounded-only}
 use Rattle.tenths.specs.Tenths.{inRange, AreTenths, tenths}
 use Rattle.tenths.proofs.Largest.{tenths-are}
-use Rattle.cases.specs.Claims.{checks, Taken, Refused, Plans, Refuses10, Least, Judged, Touch, HasTenths}
+use Rattle.cases.specs.Claims.{tableAndBound, Taken, RefusedWith, Plans, Refuses10, LeastIs, Judged, Touch, HasTenths}
 use Rattle.cases.proofs.Refute.{hopeless}
 use Rattle.cases.proofs.Firsts.{noneBefore, none, first, below-least}
 
@@ -43,24 +45,24 @@ released P t s i k = omega (
 -- ── checks 4 to 9 ──
 
 -- what the checks do with nothing behind them they do whatever is behind them
-pub takes-ok : {P : Problem} {bound : ℕ} → checks P bound accepted ≡ accepted → Taken P bound
-takes-ok {P} {bound} e = record { goes-on = went-on (checks P bound) (then-checks (table-checks P) (bound-checks bound)) (ap (λ (v : Verdict). v .number) e) }
+pub takes-ok : {P : Problem} {bound : ℕ} → tableAndBound P bound accepted ≡ accepted → Taken P bound
+takes-ok {P} {bound} e = record { goes-on = went-on (tableAndBound P bound) (then-checks (table-checks P) (bound-checks bound)) (ap (λ (v : Verdict). v .number) e) }
 
-pub refuses-ok : {P : Problem} {bound number place : ℕ} → 0 < number → checks P bound accepted ≡ refused number place → Refused P bound number place
-refuses-ok {P} {bound} {number} {place} l e = record { stops = λ next. stopped (checks P bound) (then-checks (table-checks P) (bound-checks bound)) some next ∙ e }
+pub refuses-ok : {P : Problem} {bound number place : ℕ} → 0 < number → tableAndBound P bound accepted ≡ refused number place → RefusedWith P bound number place
+refuses-ok {P} {bound} {number} {place} l e = record { stops = λ next. stopped (tableAndBound P bound) (then-checks (table-checks P) (bound-checks bound)) some next ∙ e }
   where
-    some : checks P bound accepted .number ≡ 0 → ⊥
+    some : tableAndBound P bound accepted .number ≡ 0 → ⊥
     some z = omega (arith, ap (λ (v : Verdict). v .number) e)
 
 -- a table that is taken with some bound passes checks 4 to 8
-table-goes-on : (P : Problem) (bound : ℕ) → checks P bound accepted ≡ accepted → (next : Verdict) → tableChecks P next ≡ next
+table-goes-on : (P : Problem) (bound : ℕ) → tableAndBound P bound accepted ≡ accepted → (next : Verdict) → tableChecks P next ≡ next
 table-goes-on P bound t = go (table-checks P)
   where
     go : Checks (tableChecks P) → (next : Verdict) → tableChecks P next ≡ next
     go (inl (v, ne, e)) = absurd (ne (ap (λ (w : Verdict). w .number) (sym (e _) ∙ t)))
     go (inr e) = e
 
-module _ (P : Problem) (bound : ℕ) (taken : checks P bound accepted ≡ accepted) (t : T (tidy P)) where
+module _ (P : Problem) (bound : ℕ) (taken : tableAndBound P bound accepted ≡ accepted) (t : T (tidy P)) where
   -- so the table is in order, and the verdict on a plan says whether it is valid
   ordered : InOrder P
   ordered = in-order P (table-goes-on P bound taken accepted)
@@ -70,7 +72,7 @@ module _ (P : Problem) (bound : ℕ) (taken : checks P bound accepted ≡ accept
 
 -- ── the claims: of each what is computed, then what it says ──
 
-pub plans-ok : {P : Problem} {bound : ℕ} {s : Plan} → checks P bound accepted ≡ accepted → T (tidy P) → planChecks P bound s accepted ≡ accepted → T (noneBefore P bound s) → Plans P bound s
+pub plans-ok : {P : Problem} {bound : ℕ} {s : Plan} → tableAndBound P bound accepted ≡ accepted → T (tidy P) → planChecks P bound s accepted ≡ accepted → T (noneBefore P bound s) → Plans P bound s
 plans-ok {P} {bound} {s} taken t e x = record {
   taken = takes-ok taken;
   first = f;
@@ -80,7 +82,7 @@ plans-ok {P} {bound} {s} taken t e x = record {
     f : First P bound s
     f = first P (ordered P bound taken t) bound s (accepts P bound taken t s .0 e) x
 
-pub none-ok : {P : Problem} {bound : ℕ} → checks P bound accepted ≡ accepted → T (tidy P) → T (hopeless P (λ i. bound)) → Refuses10 P bound
+pub none-ok : {P : Problem} {bound : ℕ} → tableAndBound P bound accepted ≡ accepted → T (tidy P) → T (hopeless P (λ i. bound)) → Refuses10 P bound
 none-ok {P} {bound} taken t x = record {
   taken = takes-ok taken;
   none = n;
@@ -99,7 +101,7 @@ none-ok {P} {bound} taken t x = record {
     ten-least v b z (inl (e, l)) = absurd (n z (wider P b bound z (l .within) (l .first .ok)))
     ten-least v b z (inr (e, (h, m))) = (e, h)
 
-pub least-ok : {P : Problem} {b : ℕ} {s : Plan} → checks P b accepted ≡ accepted → T (tidy P) → planChecks P b s accepted ≡ accepted → T (noneBefore P b s) → T (hopeless P (λ i. b - 1)) → Least P b s
+pub least-ok : {P : Problem} {b : ℕ} {s : Plan} → tableAndBound P b accepted ≡ accepted → T (tidy P) → planChecks P b s accepted ≡ accepted → T (noneBefore P b s) → T (hopeless P (λ i. b - 1)) → LeastIs P b s
 unfolding boundCheck
 least-ok {P} {b} {s} taken t e x y = record {
   taken = λ given l. record { goes-on = λ next. table-goes-on P b taken _ ∙ if-pass (ltb 2880 given) 9 0 next (λ h. omega (arith, ltb→lt 2880 given h)) };
@@ -114,7 +116,7 @@ least-ok {P} {b} {s} taken t e x y = record {
     l : (given : ℕ) → b ≤ given → LeastBound P given b s
     l given m = record { within = m; first = plans-ok taken t e x .first; none = λ c z h w. n c h z w }
 
-pub judged-ok : {P : Problem} {bound : ℕ} {s : Plan} {v : Verdict} → checks P bound accepted ≡ accepted → T (tidy P) → planChecks P bound s accepted ≡ v → Judged P bound s v
+pub judged-ok : {P : Problem} {bound : ℕ} {s : Plan} {v : Verdict} → tableAndBound P bound accepted ≡ accepted → T (tidy P) → planChecks P bound s accepted ≡ v → Judged P bound s v
 judged-ok {P} {bound} {s} taken t e = record {
   said = takes-ok taken .goes-on _ ∙ e;
   valid = (λ h. accepts P bound taken t s .0 (e ∙ h), λ w. sym e ∙ accepts P bound taken t s .1 w);

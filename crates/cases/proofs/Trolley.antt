@@ -9,8 +9,9 @@ use Rattle.facts.specs.Facts.{has}
 use Rattle.facts.specs.Least.{least, any}
 use Rattle.facts.proofs.Bools.{eqb-of, eqb-not, not-eqb}
 use Rattle.facts.proofs.Sets.{has-pow}
-use Rattle.rules.specs.Refusals.{refuseIf, refuseAt}
-use Rattle.rules.specs.Table.{InOrder, adds, deletes, tableChecks, jobChecks, between, jobStrays, strays, undoes}
+use Rattle.refusals.specs.Refusals.{refuseIf, refuseAt}
+use Rattle.rules.specs.Table.{tableChecks, jobChecks, between, jobStrays, strays, undoes}
+use Rattle.rules.specs.Premises.{InOrder, adds, deletes}
 use Rattle.rules.specs.Plans.{Plan, holds, Valid}
 use Rattle.rules.proofs.Checked.{in-order}
 use Rattle.cases.specs.Jobs.{facts}

@@ -5,52 +5,57 @@ use Prim.Native.Nat.{ℕ}
 use lib.IntN.{pos, negℤ}
 use Rattle.rules.specs.Table.{Problem}
 use Rattle.tenths.specs.Rounding.{float}
-use Rattle.cases.specs.Jobs.{Job, problem, lasting}
+use Rattle.cases.specs.Jobs.{action, problemOf, lasting}
 use Rattle.cases.specs.Claims.{Claim, plans, noPlan, least, touching, offered, tenths, takes, refuses}
+use Rattle.tables.specs.declared.Action.{Action}
 
 -- ── jobs U ──
 
 -- job 0
-abbrev pub unpack : Job
-unpack = record { needs = 0 ∷ []; adds = 1 ∷ []; deletes = 0 ∷ []; long = 4 }
+abbrev pub unpack : Action
+unpack = action (0 ∷ []) (1 ∷ []) (0 ∷ []) 4
 
 -- job 1
-abbrev pub drench : Job
-drench = record { needs = 1 ∷ []; adds = 2 ∷ []; deletes = []; long = 2 }
+abbrev pub drench : Action
+drench = action (1 ∷ []) (2 ∷ []) [] 2
 
 -- job 2
-abbrev pub warm : Job
-warm = record { needs = 1 ∷ []; adds = 3 ∷ []; deletes = []; long = 8 }
+abbrev pub warm : Action
+warm = action (1 ∷ []) (3 ∷ []) [] 8
 
 -- job 3
-abbrev pub wash : Job
-wash = record { needs = 1 ∷ []; adds = 4 ∷ []; deletes = 2 ∷ []; long = 3 }
+abbrev pub wash : Action
+wash = action (1 ∷ []) (4 ∷ []) (2 ∷ []) 3
 
 -- all four jobs, five facts, open {0}
 abbrev pub U : (goals : List ℕ) → Problem
-U goals = problem (unpack ∷ drench ∷ warm ∷ wash ∷ []) 5 (0 ∷ []) goals
+U goals = problemOf (unpack ∷ drench ∷ warm ∷ wash ∷ []) 5 (0 ∷ []) goals
 
 -- the same with warm this long
 abbrev pub warming : (long : ℕ) → Problem
-warming long = problem (unpack ∷ drench ∷ lasting long warm ∷ wash ∷ []) 5 (0 ∷ []) (3 ∷ [])
+warming long = problemOf (unpack ∷ drench ∷ lasting long warm ∷ wash ∷ []) 5 (0 ∷ []) (3 ∷ [])
 
 -- ── the jobs of P8, in the order of their numbers ──
 
-abbrev pub go : Job
-go = record { needs = 0 ∷ []; adds = 1 ∷ []; deletes = 0 ∷ []; long = 1 }
+-- job 0 of P8
+abbrev pub go : Action
+go = action (0 ∷ []) (1 ∷ []) (0 ∷ []) 1
 
-abbrev pub back : Job
-back = record { needs = 1 ∷ []; adds = 0 ∷ []; deletes = 1 ∷ []; long = 1 }
+-- job 1
+abbrev pub back : Action
+back = action (1 ∷ []) (0 ∷ []) (1 ∷ []) 1
 
-abbrev pub drop : Job
-drop = record { needs = 1 ∷ []; adds = 2 ∷ []; deletes = []; long = 1 }
+-- job 2
+abbrev pub drop : Action
+drop = action (1 ∷ []) (2 ∷ []) [] 1
 
-abbrev pub pick : Job
-pick = record { needs = 0 ∷ 2 ∷ []; adds = 3 ∷ []; deletes = []; long = 1 }
+-- job 3
+abbrev pub pick : Action
+pick = action (0 ∷ 2 ∷ []) (3 ∷ []) [] 1
 
 -- the table of P8: four facts, open {0}, goals {1, 3}
 abbrev pub trolley : Problem
-trolley = problem (go ∷ back ∷ drop ∷ pick ∷ []) 4 (0 ∷ []) (1 ∷ 3 ∷ [])
+trolley = problemOf (go ∷ back ∷ drop ∷ pick ∷ []) 4 (0 ∷ []) (1 ∷ 3 ∷ [])
 
 -- a job that is out
 abbrev pub out : ℕ
@@ -58,6 +63,7 @@ out = 65535
 
 -- ── the table ──
 
+-- every P case, in the order of 01
 unfoldable pub cases : List Claim
 cases =
     -- P1: goals {2, 3}, bound 12: starts 0, 4, 4, out
@@ -75,9 +81,9 @@ cases =
     -- P6: goals {0, 1}, bound 2,880: refusal 10
     ∷ noPlan (U (0 ∷ 1 ∷ [])) 2880
     -- P7: no jobs, two facts, bound 0, goals empty: the empty plan
-    ∷ plans (problem [] 2 (0 ∷ []) []) 0 []
+    ∷ plans (problemOf [] 2 (0 ∷ []) []) 0 []
     -- P7: goals {1}, open {0}: refusal 10
-    ∷ noPlan (problem [] 2 (0 ∷ []) (1 ∷ [])) 0
+    ∷ noPlan (problemOf [] 2 (0 ∷ []) (1 ∷ [])) 0
     -- P8: bound 12: refusal 10, since go is wanted twice
     ∷ noPlan trolley 12
     -- P9: 24.000000000000004 has 240 tenths

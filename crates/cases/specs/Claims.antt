@@ -7,7 +7,7 @@ use Prim.Native.Nat.{ℕ, _≤_, _<_}
 use lib.Dec.{T}
 use lib.Ieee.{Float}
 use lib.IntN.{ℤ}
-use Rattle.rules.specs.Refusals.{Verdict, accepted, refused}
+use Rattle.refusals.specs.Refusals.{Verdict, accepted, refused}
 use Rattle.rules.specs.Table.{Problem, tableChecks, boundCheck}
 use Rattle.rules.specs.Plans.{Plan, starts, In, finish, interfere, Valid}
 use Rattle.rules.specs.Verdicts.{planChecks}
@@ -36,26 +36,26 @@ pub data Claim : Type 0 where
 -- ── what the claims say ──
 
 -- checks 4 to 9 of a call, and what is said behind them
-abbrev pub checks : Problem → (bound : ℕ) → Verdict → Verdict
-checks P bound next = tableChecks P (boundCheck bound next)
+abbrev pub tableAndBound : Problem → (bound : ℕ) → Verdict → Verdict
+tableAndBound P bound next = tableChecks P (boundCheck bound next)
 
 -- they take the table and the bound: what comes behind them is what is said
 pub record Taken (P : Problem) (bound : ℕ) : Type 0 where
-  pub goes-on : (next : Verdict) → checks P bound next ≡ next
+  pub goes-on : (next : Verdict) → tableAndBound P bound next ≡ next
 
 -- they refuse: this is what is said, whatever would come behind them
-pub record Refused (P : Problem) (bound number place : ℕ) : Type 0 where
-  pub stops : (next : Verdict) → checks P bound next ≡ refused number place
+pub record RefusedWith (P : Problem) (bound number place : ℕ) : Type 0 where
+  pub stops : (next : Verdict) → tableAndBound P bound next ≡ refused number place
 
 -- z has the starts of s
-abbrev pub Same : Problem → (z s : Plan) → Type 0
-Same P z s = (i : ℕ) → i < P .count → z i ≡ s i
+abbrev pub SameStarts : Problem → (z s : Plan) → Type 0
+SameStarts P z s = (i : ℕ) → i < P .count → z i ≡ s i
 
 -- s is the first valid plan, and every answer that the rules allow gives its starts
 pub record Plans (P : Problem) (bound : ℕ) (s : Plan) : Type 0 where
   pub taken : Taken P bound
   pub first : First P bound s
-  pub answer : (v : Verdict) (z : Plan) → Planned P bound v z → (v ≡ accepted) × Same P z s
+  pub answer : (v : Verdict) (z : Plan) → Planned P bound v z → (v ≡ accepted) × SameStarts P z s
 
 -- no plan at all is valid: to planning the rules allow one answer, 10 with place 0, and to the least bound 10 with 65,535
 pub record Refuses10 (P : Problem) (bound : ℕ) : Type 0 where
@@ -65,15 +65,15 @@ pub record Refuses10 (P : Problem) (bound : ℕ) : Type 0 where
   pub least : (v : Verdict) (b : ℕ) (z : Plan) → Bounded P bound v b z ↔ ((v ≡ refused 10 0) × (b ≡ 65535))
 
 -- b is the least bound under every given bound from b on, and every answer that the rules allow gives it with the starts of s
-pub record Least (P : Problem) (b : ℕ) (s : Plan) : Type 0 where
+pub record LeastIs (P : Problem) (b : ℕ) (s : Plan) : Type 0 where
   pub taken : (given : ℕ) → given ≤ 2880 → Taken P given
   pub least : (given : ℕ) → b ≤ given → LeastBound P given b s
   pub none : (given : ℕ) → given < b → NoPlan P given
-  pub answer : (given : ℕ) → b ≤ given → (v : Verdict) (c : ℕ) (z : Plan) → Bounded P given v c z → (v ≡ accepted) × (c ≡ b) × Same P z s
+  pub answer : (given : ℕ) → b ≤ given → (v : Verdict) (c : ℕ) (z : Plan) → Bounded P given v c z → (v ≡ accepted) × (c ≡ b) × SameStarts P z s
 
 -- what is said of an offered plan is v, and it is accepted exactly where the plan is valid
 pub record Judged (P : Problem) (bound : ℕ) (s : Plan) (v : Verdict) : Type 0 where
-  pub said : checks P bound (planChecks P bound s accepted) ≡ v
+  pub said : tableAndBound P bound (planChecks P bound s accepted) ≡ v
   pub valid : (v ≡ accepted) ↔ Valid P bound s
 
 -- jobs a and b of the plan interfere, and b starts at the quarter hour in which a finishes
@@ -88,17 +88,17 @@ pub record HasTenths (x : Float) (t : ℤ) : Type 0 where
   pub largest : AreTenths x t
 
 -- what a case claims of the rules
-abbrev pub Holds : Claim → Type 0
-Holds (plans P bound l) = Plans P bound (starts l)
-Holds (noPlan P bound) = Refuses10 P bound
-Holds (least P b l) = Least P b (starts l)
-Holds (touching P bound l a b) = Judged P bound (starts l) accepted × Touch P (starts l) a b
-Holds (offered P bound l number place) = Judged P bound (starts l) (refused number place)
-Holds (tenths x t) = HasTenths x t
-Holds (takes P bound) = Taken P bound
-Holds (refuses P bound number place) = Refused P bound number place
+abbrev pub IsSo : Claim → Type 0
+IsSo (plans P bound l) = Plans P bound (starts l)
+IsSo (noPlan P bound) = Refuses10 P bound
+IsSo (least P b l) = LeastIs P b (starts l)
+IsSo (touching P bound l a b) = Judged P bound (starts l) accepted × Touch P (starts l) a b
+IsSo (offered P bound l number place) = Judged P bound (starts l) (refused number place)
+IsSo (tenths x t) = HasTenths x t
+IsSo (takes P bound) = Taken P bound
+IsSo (refuses P bound number place) = RefusedWith P bound number place
 
 -- every case of the list holds
 abbrev pub AllHold : List Claim → Type 0
 AllHold [] = Unit {0}
-AllHold (c ∷ cs) = Holds c × AllHold cs
+AllHold (c ∷ cs) = IsSo c × AllHold cs

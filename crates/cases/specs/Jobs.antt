@@ -1,29 +1,28 @@
 -- How the table of cases writes down jobs and sets of facts.
 -- Assumes nothing.
-use mathlib.Core.List.{List, [], _∷_, map}
+use mathlib.Core.List.{List, [], _∷_}
 use Prim.Native.Nat.{ℕ, _^_}
 use lib.Bits.{bitOr}
 use lib.ListN.{length}
-use Rattle.rules.specs.Table.{Problem, listed}
-
--- a job: the facts that it needs, adds and deletes, and how long it is
-pub record Job : Type 0 where
-  pub needs : List ℕ
-  pub adds : List ℕ
-  pub deletes : List ℕ
-  pub long : ℕ
+use Rattle.rules.specs.Table.{Problem}
+use Rattle.tables.specs.declared.Action.{Action}
+use Rattle.tables.specs.Tables.{problem}
 
 -- exactly these facts, as one word
 unfoldable pub facts : List ℕ → ℕ
 facts [] = 0
 facts (p ∷ ps) = bitOr (facts ps) (2 ^ p)
 
+-- a job by the facts that it needs, adds and deletes, and how long it is
+abbrev pub action : (needs adds deletes : List ℕ) (long : ℕ) → Action
+action needs adds deletes long = record { conditions = facts needs; additions = facts adds; deletions = facts deletes; duration = long }
+
 -- the problem of these jobs, numbered from 0
-abbrev pub problem : List Job → (atoms : ℕ) → (opening goals : List ℕ) → Problem
-problem jobs atoms opening goals =
-    listed (length jobs) (map (λ j. facts (j .needs)) jobs) (map (λ j. facts (j .adds)) jobs) (map (λ j. facts (j .deletes)) jobs) (map (λ j. j .long) jobs)
-    atoms (facts opening) (facts goals)
+abbrev pub problemOf : List Action → (atoms : ℕ) → (opening goals : List ℕ) → Problem
+problemOf jobs atoms opening goals =
+    problem (record { jobs = jobs; lent = length jobs })
+    (record { jobs = length jobs; atoms = atoms; opening = facts opening; goals = facts goals; bound = 0; set = 0; pairs = 0 })
 
 -- the same job with another duration
-abbrev pub lasting : (long : ℕ) → Job → Job
-lasting long j = record { needs = j .needs; adds = j .adds; deletes = j .deletes; long = long }
+abbrev pub lasting : (long : ℕ) → Action → Action
+lasting long a = record { conditions = a .conditions; additions = a .additions; deletions = a .deletions; duration = long }

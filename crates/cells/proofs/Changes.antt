@@ -8,32 +8,20 @@ use native.Mathlib.Nat.{le-refl}
 use native.Mathlib.Omega.{arith}
 use native.Mathlib.Decide.{ℕ-discrete, decLt}
 use lib.Bits.{bitOr}
-use lib.Dec.{T, eqb, eqb→eq, eqb-refl}
+use lib.Dec.{T}
 use lib.ListN.{getD, set, length, replicate, getD-replicate, length-replicate}
 use lib.Seq.{getD-set-same, getD-set-other}
 use Rattle.facts.specs.Facts.{has}
-use Rattle.facts.proofs.Bools.{or-l, or-r, or-cases, below-suc}
+use Rattle.facts.proofs.Bools.{below-suc}
 use Rattle.facts.proofs.Lists.{getD-past}
-use Rattle.facts.proofs.Sets.{word-with, has-or}
 use Rattle.rules.specs.Plans.{Plan}
-use Rattle.rules.specs.Table.{InOrder}
+use Rattle.rules.specs.Premises.{InOrder}
 use Rattle.states.specs.State.{Search, Left, Fits, More, Keeps}
 use Rattle.states.proofs.Keep.{left-back, fits-more, keeps-refl, keeps-trans, more-refl, more-trans}
-use Rattle.cells.specs.View.{Place, ins, outs, sures, nevers, los, his, at, word, view, Prunes, Says, NoneLeft, Sets, Puts, PutsBit, IsIn, IsOut, Before, AllBefore, NotBefore, From, Till, Noted, Blank}
+use Rattle.cells.specs.View.{Place, ins, outs, sures, nevers, los, his, at, wordAt, view, Prunes, Says, NoneLeft, Sets, Puts, PutsBit, IsIn, IsOut, IsAhead, AllAhead, NotAhead, From, Till, Blank}
+use Rattle.jobs.proofs.Laws.{bits-keep, bits-cases, bit-new, bit-cases}
 
 -- ── bits ──
-
-pub bits-keep : (w v p : ℕ) → T (has w p) → T (has (bitOr w v) p)
-bits-keep w v p h = subst T (sym (has-or w v p)) (or-l (has w p) (has v p) h)
-
-pub bits-cases : (w v p : ℕ) → T (has (bitOr w v) p) → T (has w p) ⊎ T (has v p)
-bits-cases w v p h = or-cases (has w p) (has v p) (subst T (has-or w v p) h)
-
-pub bit-new : (w q : ℕ) → T (has (bitOr w (2 ^ q)) q)
-bit-new w q = subst T (sym (word-with w q q)) (or-r (has w q) (eqb q q) (eqb-refl q))
-
-pub bit-cases : (w q p : ℕ) → T (has (bitOr w (2 ^ q)) p) → T (has w p) ⊎ (p ≡ q)
-bit-cases w q p h = ⊎-elim inl (λ e. inr (eqb→eq p q e)) (or-cases (has w p) (eqb p q) (subst T (word-with w q p) h))
 
 -- ── no two places are one ──
 
@@ -73,8 +61,8 @@ Bigger (his j) w x = x ≤ w
 abbrev True : Search → Plan → Place → ℕ → ℕ → Type 0
 True P Q ins w x = (j : ℕ) → T (has x j) → T (has w j) ⊎ IsIn j P Q
 True P Q outs w x = (j : ℕ) → T (has x j) → T (has w j) ⊎ IsOut j P Q
-True P Q (sures b) w x = (a : ℕ) → T (has x a) → T (has w a) ⊎ Before a b P Q
-True P Q (nevers b) w x = (a : ℕ) → T (has x a) → T (has w a) ⊎ NotBefore a b P Q
+True P Q (sures b) w x = (a : ℕ) → T (has x a) → T (has w a) ⊎ IsAhead a b P Q
+True P Q (nevers b) w x = (a : ℕ) → T (has x a) → T (has w a) ⊎ NotAhead a b P Q
 True P Q (los j) w x = (x ≤ w) ⊎ From j x P Q
 True P Q (his j) w x = (w ≤ x) ⊎ Till j x P Q
 
@@ -100,20 +88,20 @@ module _ (q : Place) (x : ℕ) (s : List ℕ) (room : at q < length s) where
   abbrev after : List ℕ
   after = set s (at q) x
 
-  word-set : (p : Place) → ((p ≡ q) × (word after p ≡ x)) ⊎ (word after p ≡ word s p)
+  word-set : (p : Place) → ((p ≡ q) × (wordAt after p ≡ x)) ⊎ (wordAt after p ≡ wordAt s p)
   word-set p = go (ℕ-discrete (at p) (at q))
     where
-      go : Dec (at p ≡ at q) → ((p ≡ q) × (word after p ≡ x)) ⊎ (word after p ≡ word s p)
+      go : Dec (at p ≡ at q) → ((p ≡ q) × (wordAt after p ≡ x)) ⊎ (wordAt after p ≡ wordAt s p)
       go (yes e) = inl (one-place p q e, subst (λ (k : ℕ). getD after k 0 ≡ x) (sym e) (getD-set-same s (at q) x 0 room))
       go (no e) = inr (getD-set-other s (at q) (at p) x 0 e)
 
-  bigger-set : Bigger q (word s q) x → (p : Place) → Bigger p (word s p) (word after p)
-  bigger-set h p = ⊎-elim (λ e. rw (e .1, e .0) h) (λ e. rw e (bigger-refl p (word s p))) (word-set p)
+  bigger-set : Bigger q (wordAt s q) x → (p : Place) → Bigger p (wordAt s p) (wordAt after p)
+  bigger-set h p = ⊎-elim (λ e. rw (e .1, e .0) h) (λ e. rw e (bigger-refl p (wordAt s p))) (word-set p)
 
-  true-set : (P : Search) (Q : Plan) → True P Q q (word s q) x → (p : Place) → True P Q p (word s p) (word after p)
-  true-set P Q h p = ⊎-elim (λ e. rw (e .1, e .0) h) (λ e. rw e (true-refl P Q p (word s p))) (word-set p)
+  true-set : (P : Search) (Q : Plan) → True P Q q (wordAt s q) x → (p : Place) → True P Q p (wordAt s p) (wordAt after p)
+  true-set P Q h p = ⊎-elim (λ e. rw (e .1, e .0) h) (λ e. rw e (true-refl P Q p (wordAt s p))) (word-set p)
 
-  pub puts : {r : List ℕ} (A : Search → Plan → Type 0) → Bigger q (word s q) x → ((P : Search) (Q : Plan) → A P Q → True P Q q (word s q) x) → r ≡ after → Puts A q x s r
+  pub puts : {r : List ℕ} (A : Search → Plan → Type 0) → Bigger q (wordAt s q) x → ((P : Search) (Q : Plan) → A P Q → True P Q q (wordAt s q) x) → r ≡ after → Puts A q x s r
   puts A g t e = rw e (
       let b = bigger-set g in
       record {
@@ -123,35 +111,35 @@ module _ (q : Place) (x : ℕ) (s : List ℕ) (room : at q < length s) where
       })
 
 -- the seven changes
-pub puts-inside : {s r : List ℕ} (j : ℕ) → Sets s 0 (bitOr (word s ins) (2 ^ j)) r → Puts (IsIn j) ins (bitOr (word s ins) (2 ^ j)) s r
+pub puts-inside : {s r : List ℕ} (j : ℕ) → Sets s 0 (bitOr (wordAt s ins) (2 ^ j)) r → Puts (IsIn j) ins (bitOr (wordAt s ins) (2 ^ j)) s r
 puts-inside {s} j d = puts ins _ s (d .room) (IsIn j) (bits-keep _ _) (λ P Q h i k. ⊎-elim inl (λ e. inr (rw e h)) (bit-cases _ j i k)) (d .is)
 
-pub puts-barred : {s r : List ℕ} (j : ℕ) → Sets s 1 (bitOr (word s outs) (2 ^ j)) r → Puts (IsOut j) outs (bitOr (word s outs) (2 ^ j)) s r
+pub puts-barred : {s r : List ℕ} (j : ℕ) → Sets s 1 (bitOr (wordAt s outs) (2 ^ j)) r → Puts (IsOut j) outs (bitOr (wordAt s outs) (2 ^ j)) s r
 puts-barred {s} j d = puts outs _ s (d .room) (IsOut j) (bits-keep _ _) (λ P Q h i k. ⊎-elim inl (λ e. inr (rw e h)) (bit-cases _ j i k)) (d .is)
 
-pub puts-sure : {s r : List ℕ} (a b : ℕ) → Sets s (4 * b + 4) (bitOr (word s (sures b)) (2 ^ a)) r → Puts (Before a b) (sures b) (bitOr (word s (sures b)) (2 ^ a)) s r
-puts-sure {s} a b d = puts (sures b) _ s (d .room) (Before a b) (bits-keep _ _) (λ P Q h i k. ⊎-elim inl (λ e. inr (rw e h)) (bit-cases _ a i k)) (d .is)
+pub puts-sure : {s r : List ℕ} (a b : ℕ) → Sets s (4 * b + 4) (bitOr (wordAt s (sures b)) (2 ^ a)) r → Puts (IsAhead a b) (sures b) (bitOr (wordAt s (sures b)) (2 ^ a)) s r
+puts-sure {s} a b d = puts (sures b) _ s (d .room) (IsAhead a b) (bits-keep _ _) (λ P Q h i k. ⊎-elim inl (λ e. inr (rw e h)) (bit-cases _ a i k)) (d .is)
 
-pub puts-sures : {s r : List ℕ} (b v : ℕ) → Sets s (4 * b + 4) (bitOr (word s (sures b)) v) r → Puts (AllBefore v b) (sures b) (bitOr (word s (sures b)) v) s r
+pub puts-sures : {s r : List ℕ} (b v : ℕ) → Sets s (4 * b + 4) (bitOr (wordAt s (sures b)) v) r → Puts (AllAhead v b) (sures b) (bitOr (wordAt s (sures b)) v) s r
 puts-sures {s} b v d = puts (sures b) _ s (d .room) _ (bits-keep _ _) (λ P Q h i k. ⊎-elim inl (λ e. inr (h i e)) (bits-cases _ v i k)) (d .is)
 
-pub puts-never : {s r : List ℕ} (a b : ℕ) → Sets s (4 * b + 5) (bitOr (word s (nevers b)) (2 ^ a)) r → Puts (NotBefore a b) (nevers b) (bitOr (word s (nevers b)) (2 ^ a)) s r
-puts-never {s} a b d = puts (nevers b) _ s (d .room) (NotBefore a b) (bits-keep _ _) (λ P Q h i k. ⊎-elim inl (λ e. inr (rw e h)) (bit-cases _ a i k)) (d .is)
+pub puts-never : {s r : List ℕ} (a b : ℕ) → Sets s (4 * b + 5) (bitOr (wordAt s (nevers b)) (2 ^ a)) r → Puts (NotAhead a b) (nevers b) (bitOr (wordAt s (nevers b)) (2 ^ a)) s r
+puts-never {s} a b d = puts (nevers b) _ s (d .room) (NotAhead a b) (bits-keep _ _) (λ P Q h i k. ⊎-elim inl (λ e. inr (rw e h)) (bit-cases _ a i k)) (d .is)
 
-pub puts-lo : {s r : List ℕ} (j x : ℕ) → word s (los j) ≤ x → Sets s (4 * j + 6) x r → Puts (From j x) (los j) x s r
+pub puts-lo : {s r : List ℕ} (j x : ℕ) → wordAt s (los j) ≤ x → Sets s (4 * j + 6) x r → Puts (From j x) (los j) x s r
 puts-lo {s} j x g d = puts (los j) x s (d .room) (From j x) g (λ P Q h. inr h) (d .is)
 
-pub puts-hi : {s r : List ℕ} (j x : ℕ) → x ≤ word s (his j) → Sets s (4 * j + 7) x r → Puts (Till j x) (his j) x s r
+pub puts-hi : {s r : List ℕ} (j x : ℕ) → x ≤ wordAt s (his j) → Sets s (4 * j + 7) x r → Puts (Till j x) (his j) x s r
 puts-hi {s} j x g d = puts (his j) x s (d .room) (Till j x) g (λ P Q h. inr h) (d .is)
 
 -- the word that was put, and the others
-pub new-word : {A : Search → Plan → Type 0} {p : Place} {x : ℕ} {s r : List ℕ} → Puts A p x s r → word r p ≡ x
+pub new-word : {A : Search → Plan → Type 0} {p : Place} {x : ℕ} {s r : List ℕ} → Puts A p x s r → wordAt r p ≡ x
 new-word {p = p} {x} {s} d = rw (d .sets .is) (getD-set-same s (at p) x 0 (d .sets .room))
 
-pub new-bit : {A : Search → Plan → Type 0} (p : Place) (j : ℕ) {s r : List ℕ} → PutsBit A p j s r → T (has (word r p) j)
-new-bit p j {s} {r} d = subst (λ (w : ℕ). T (has w j)) (sym (new-word d)) (bit-new (word s p) j)
+pub new-bit : {A : Search → Plan → Type 0} (p : Place) (j : ℕ) {s r : List ℕ} → PutsBit A p j s r → T (has (wordAt r p) j)
+new-bit p j {s} {r} d = subst (λ (w : ℕ). T (has w j)) (sym (new-word d)) (bit-new (wordAt s p) j)
 
-pub old-word : {A : Search → Plan → Type 0} {p : Place} {x : ℕ} {s r : List ℕ} → Puts A p x s r → (q : Place) → at q ≢ at p → word r q ≡ word s q
+pub old-word : {A : Search → Plan → Type 0} {p : Place} {x : ℕ} {s r : List ℕ} → Puts A p x s r → (q : Place) → at q ≢ at p → wordAt r q ≡ wordAt s q
 old-word {p = p} {x} {s} d q n = rw (d .sets .is) (getD-set-other s (at p) (at q) x 0 n)
 
 -- what is so in the plan left may be said
@@ -198,12 +186,6 @@ pub killed : {s t r : List ℕ} → PutsBit (IsIn 0) ins 0 s t → PutsBit (IsOu
 killed {t = t} d e = follows {U = NoneLeft t} (says d (λ P wf h Q l. absurd (h Q l))) (λ P h m Q l. h Q (left-back m l)) (says e (λ P wf h Q l. absurd (h Q l)))
 
 -- ── words of jobs ──
-
-pub noted-not : {A : Type 0} {j w : ℕ} → (j < 24 → A → ⊥) → Noted A j w w
-noted-not n = record { keeps = λ i h. h; of = λ i h. inl h; at = λ l a. absurd (n l a) }
-
-pub noted-with : {A : Type 0} {j w : ℕ} → j < 24 → A → Noted A j w (bitOr w (2 ^ j))
-noted-with {A} {j} {w} l a = record { keeps = bits-keep w (2 ^ j); of = λ i h. ⊎-elim inl (λ e. inr (e, l, a)) (bit-cases w j i h); at = λ l a. bit-new w j }
 
 -- ── the state that says nothing ──
 

@@ -1,7 +1,6 @@
 -- The state of the code, one list of words, as a state of the theory; its places and its changes.
 -- Assumes nothing.
 use mathlib.Core.Path.{_≡_}
-use mathlib.Core.Logic.{_⊎_}
 use mathlib.Core.List.{List}
 use Prim.Native.Nat.{ℕ, _+_, _*_, _≤_, _<_, _^_}
 use lib.Bits.{bitOr}
@@ -9,8 +8,8 @@ use lib.ListN.{getD, set, length}
 use lib.Dec.{T}
 use Rattle.facts.specs.Facts.{has}
 use Rattle.rules.specs.Plans.{Plan}
-use Rattle.rules.specs.Table.{InOrder}
-use Rattle.states.specs.State.{Search, St, More, Keeps, Fits, Dead, Has, Ahead}
+use Rattle.rules.specs.Premises.{InOrder}
+use Rattle.states.specs.State.{Search, St, More, Keeps, Fits, Dead, HasJob, Ahead}
 
 -- the words: the jobs inside, the jobs barred; of each job those over before it, those not over before it, its window
 pub data Place : Type 0 where
@@ -30,17 +29,19 @@ at (nevers b) = 4 * b + 5
 at (los j) = 4 * j + 6
 at (his j) = 4 * j + 7
 
-abbrev pub word : List ℕ → Place → ℕ
-word s p = getD s (at p) 0
+-- the word at a place
+abbrev pub wordAt : List ℕ → Place → ℕ
+wordAt s p = getD s (at p) 0
 
+-- the state that the words are
 abbrev pub view : List ℕ → St
 view s = record {
-  inside = λ j. has (word s ins) j;
-  barred = λ j. has (word s outs) j;
-  sure = λ a b. has (word s (sures b)) a;
-  never = λ a b. has (word s (nevers b)) a;
-  lo = λ j. word s (los j);
-  hi = λ j. word s (his j);
+  inside = λ j. has (wordAt s ins) j;
+  barred = λ j. has (wordAt s outs) j;
+  sure = λ a b. has (wordAt s (sures b)) a;
+  never = λ a b. has (wordAt s (nevers b)) a;
+  lo = λ j. wordAt s (los j);
+  hi = λ j. wordAt s (his j);
 }
 
 -- no less is said, and the first plan of a problem of which Ok is so is kept
@@ -54,8 +55,8 @@ pub record Says (A : Search → Plan → Type 0) (s r : List ℕ) : Type 0 where
   pub fits : (P : Search) (Q : Plan) → Fits P Q (view s) → A P Q → Fits P Q (view r)
 
 -- a rule that asks nothing of the problem
-abbrev pub Any : Search → Type 0
-Any P = Unit {0}
+abbrev pub Always : Search → Type 0
+Always P = Unit {0}
 
 -- no plan is left in the state
 abbrev pub NoneLeft : List ℕ → Search → Type 0
@@ -74,42 +75,43 @@ pub record Puts (A : Search → Plan → Type 0) (p : Place) (x : ℕ) (s r : Li
 
 -- the word at p with one bit more
 abbrev pub PutsBit : (Search → Plan → Type 0) → Place → ℕ → List ℕ → List ℕ → Type 0
-PutsBit A p j s r = Puts A p (bitOr (word s p) (2 ^ j)) s r
+PutsBit A p j s r = Puts A p (bitOr (wordAt s p) (2 ^ j)) s r
 
 -- the state says nothing: every word is 0 but for the latest starts of the first n jobs, which are 65,535
 pub record Blank (s : List ℕ) (n : ℕ) : Type 0 where
-  pub ins : word s ins ≡ 0
-  pub outs : word s outs ≡ 0
-  pub sures : (b : ℕ) → word s (sures b) ≡ 0
-  pub nevers : (b : ℕ) → word s (nevers b) ≡ 0
-  pub los : (j : ℕ) → word s (los j) ≡ 0
-  pub his : (j : ℕ) → j < n → word s (his j) ≡ 65535
-
--- r is the word w, with job j more where A is so
-pub record Noted (A : Type 0) (j w r : ℕ) : Type 0 where
-  pub keeps : (i : ℕ) → T (has w i) → T (has r i)
-  pub of : (i : ℕ) → T (has r i) → T (has w i) ⊎ ((i ≡ j) × (j < 24) × A)
-  pub at : j < 24 → A → T (has r j)
+  pub ins : wordAt s ins ≡ 0
+  pub outs : wordAt s outs ≡ 0
+  pub sures : (b : ℕ) → wordAt s (sures b) ≡ 0
+  pub nevers : (b : ℕ) → wordAt s (nevers b) ≡ 0
+  pub los : (j : ℕ) → wordAt s (los j) ≡ 0
+  pub his : (j : ℕ) → j < n → wordAt s (his j) ≡ 65535
 
 -- ── what a word can say of a plan ──
 
+-- job x is in
 abbrev pub IsIn : ℕ → Search → Plan → Type 0
-IsIn x P Q = Has P Q x
+IsIn x P Q = HasJob P Q x
 
+-- job x is out
 abbrev pub IsOut : ℕ → Search → Plan → Type 0
-IsOut x P Q = Has P Q x → ⊥
+IsOut x P Q = HasJob P Q x → ⊥
 
-abbrev pub Before : ℕ → ℕ → Search → Plan → Type 0
-Before a b P Q = Has P Q a → Has P Q b → Ahead P Q a b
+-- a is over before b, where both are in
+abbrev pub IsAhead : ℕ → ℕ → Search → Plan → Type 0
+IsAhead a b P Q = HasJob P Q a → HasJob P Q b → Ahead P Q a b
 
-abbrev pub AllBefore : (jobs b : ℕ) → Search → Plan → Type 0
-AllBefore v b P Q = (a : ℕ) → T (has v a) → Before a b P Q
+-- every job of the word is over before b
+abbrev pub AllAhead : (jobs b : ℕ) → Search → Plan → Type 0
+AllAhead v b P Q = (a : ℕ) → T (has v a) → IsAhead a b P Q
 
-abbrev pub NotBefore : ℕ → ℕ → Search → Plan → Type 0
-NotBefore a b P Q = Has P Q a → Has P Q b → Ahead P Q a b → ⊥
+-- a is not over before b, where both are in
+abbrev pub NotAhead : ℕ → ℕ → Search → Plan → Type 0
+NotAhead a b P Q = HasJob P Q a → HasJob P Q b → Ahead P Q a b → ⊥
 
+-- job j starts at x or later
 abbrev pub From : ℕ → ℕ → Search → Plan → Type 0
-From j x P Q = Has P Q j → x ≤ Q j
+From j x P Q = HasJob P Q j → x ≤ Q j
 
+-- job j starts at x or earlier
 abbrev pub Till : ℕ → ℕ → Search → Plan → Type 0
-Till j x P Q = Has P Q j → Q j ≤ x
+Till j x P Q = HasJob P Q j → Q j ≤ x

@@ -2,90 +2,28 @@
 ghost use mathlib.Core.Path.{_≡_};
 ghost use Prim.Native.Nat.{_+_, _≤_, _<_, _^_};
 ghost use lib.Bits.{bitOr};
-ghost use lib.Dec.{T};
 ghost use lib.ListN.{length, getD};
-ghost use Rattle.facts.specs.Facts.{has, Covers, Decides};
-ghost use Rattle.facts.specs.Least.{least};
-ghost use Rattle.facts.specs.Walks.{Walk};
-ghost use Rattle.cells.specs.View.{ins, outs, sures, nevers, los, his, word, view, Noted, Blank, Prunes, NoneLeft, Sets, Puts, PutsBit, IsIn, IsOut, Before, AllBefore, NotBefore, From, Till};
+ghost use Rattle.cells.specs.View.{ins, outs, sures, nevers, los, his, wordAt, view, Blank, Prunes, NoneLeft, Sets, Puts, PutsBit, IsIn, IsOut, IsAhead, AllAhead, NotAhead, From, Till};
 
 pub type State = [u32; 100];
-
-// Bit j of w.
-pub fn has(w: u32, j: usize) -> bool
-    requires { ⌜ j < 24 ⌝ }
-    ensures { λ r. ⌜ r ≡ has w j ⌝ }
-{
-    (w >> j) % 2 == 1
-}
-
-// w with bit j set.
-pub fn with(w: u32, j: usize) -> u32
-    requires { ⌜ j < 24 ⌝ }
-    ensures { λ r. ⌜ r ≡ bitOr w (2 ^ j) ⌝ }
-{
-    w | (1u32 << j)
-}
-
-// w with bit j where the flag says so and j is a job.
-pub fn with_if(w: u32, j: usize, flag: bool) -> u32
-    ensures { λ r. ⌜ Noted (T flag) j w r ⌝ }
-{
-    if !flag {
-        return w;
-    }
-    if 24 <= j {
-        return w;
-    }
-    with(w, j)
-}
-
-// Every bit of w is in v.
-pub fn within(w: u32, v: u32) -> bool
-    ensures { λ r. ⌜ Decides r (Covers v w) ⌝ }
-{
-    facts::covers(wide(v), wide(w))
-}
-
-// The lowest bit of w, or 32.
-pub fn lowest(w: u32) -> usize
-    ensures { λ r. ⌜ r ≡ least (has w) 32 ⌝ }
-{
-    u32::trailing_zeros(w) as usize
-}
-
-// w without its lowest bit.
-pub fn rest(w: u32) -> u32
-    requires { ⌜ 0 < w ⌝ }
-    ensures { λ r. ⌜ Walk 32 w r ⌝ }
-{
-    w & (w - 1)
-}
-
-// The same number, wide enough for sums.
-pub fn wide(x: u32) -> u64
-    ensures { λ r. ⌜ r ≡ x ⌝ }
-{
-    x as u64
-}
 
 // The sum of two numbers of 32 bits, which fits.
 pub fn sum(x: u32, y: u32) -> u64
     ensures { λ r. ⌜ (r ≡ x + y) × (r < 2 ^ 33) ⌝ }
 {
-    wide(x) + wide(y)
+    jobs::wide(x) + jobs::wide(y)
 }
 
 // The jobs inside, as a word.
 pub fn insides(s: &State) -> u32
-    ensures { λ r. ⌜ r ≡ word (now (s .entry)) ins ⌝ }
+    ensures { λ r. ⌜ r ≡ wordAt (now (s .entry)) ins ⌝ }
 {
     s[0]
 }
 
 // The jobs barred, as a word.
 pub fn outsides(s: &State) -> u32
-    ensures { λ r. ⌜ r ≡ word (now (s .entry)) outs ⌝ }
+    ensures { λ r. ⌜ r ≡ wordAt (now (s .entry)) outs ⌝ }
 {
     s[1]
 }
@@ -93,7 +31,7 @@ pub fn outsides(s: &State) -> u32
 // The jobs that are over before b, as a word.
 pub fn row_sure(s: &State, b: usize) -> u32
     requires { ⌜ b < 24 ⌝ }
-    ensures { λ r. ⌜ r ≡ word (now (s .entry)) (sures b) ⌝ }
+    ensures { λ r. ⌜ r ≡ wordAt (now (s .entry)) (sures b) ⌝ }
 {
     s[4 * b + 4]
 }
@@ -101,7 +39,7 @@ pub fn row_sure(s: &State, b: usize) -> u32
 // The jobs that are not over before b, as a word.
 pub fn row_never(s: &State, b: usize) -> u32
     requires { ⌜ b < 24 ⌝ }
-    ensures { λ r. ⌜ r ≡ word (now (s .entry)) (nevers b) ⌝ }
+    ensures { λ r. ⌜ r ≡ wordAt (now (s .entry)) (nevers b) ⌝ }
 {
     s[4 * b + 5]
 }
@@ -127,7 +65,7 @@ pub fn inside(s: &State, j: usize) -> bool
     requires { ⌜ j < 24 ⌝ }
     ensures { λ r. ⌜ r ≡ view (now (s .entry)) .inside j ⌝ }
 {
-    has(s[0], j)
+    jobs::has(s[0], j)
 }
 
 // Job j is out.
@@ -135,7 +73,7 @@ pub fn barred(s: &State, j: usize) -> bool
     requires { ⌜ j < 24 ⌝ }
     ensures { λ r. ⌜ r ≡ view (now (s .entry)) .barred j ⌝ }
 {
-    has(s[1], j)
+    jobs::has(s[1], j)
 }
 
 // a is over before b.
@@ -143,7 +81,7 @@ pub fn sure(s: &State, a: usize, b: usize) -> bool
     requires { ⌜ (a < 24) × (b < 24) ⌝ }
     ensures { λ r. ⌜ r ≡ view (now (s .entry)) .sure a b ⌝ }
 {
-    has(s[4 * b + 4], a)
+    jobs::has(s[4 * b + 4], a)
 }
 
 // a is not over before b.
@@ -151,7 +89,7 @@ pub fn never(s: &State, a: usize, b: usize) -> bool
     requires { ⌜ (a < 24) × (b < 24) ⌝ }
     ensures { λ r. ⌜ r ≡ view (now (s .entry)) .never a b ⌝ }
 {
-    has(s[4 * b + 5], a)
+    jobs::has(s[4 * b + 5], a)
 }
 
 // The word at i is x.
@@ -175,7 +113,7 @@ fn put_bit(s: &mut [u32], i: usize, j: usize)
     requires { ⌜ (i < length (now s)) × (j < 24) ⌝ }
     ensures { λ _. ⌜ Sets (now (s .entry)) i (bitOr (getD (now (s .entry)) i 0) (2 ^ j)) (now (s .exit)) ⌝ }
 {
-    s[i] = with(s[i], j);
+    s[i] = jobs::with(s[i], j);
 }
 
 // The state that says nothing: every start up to 65,535 is free.
@@ -208,7 +146,7 @@ pub fn put_barred(s: &mut State, j: usize)
 // a is over before b.
 pub fn put_sure(s: &mut State, a: usize, b: usize)
     requires { ⌜ (a < 24) × (b < 24) ⌝ }
-    ensures { λ _. ⌜ PutsBit (Before a b) (sures b) a (now (s .entry)) (now (s .exit)) ⌝ }
+    ensures { λ _. ⌜ PutsBit (IsAhead a b) (sures b) a (now (s .entry)) (now (s .exit)) ⌝ }
 {
     put_bit(s, 4 * b + 4, a);
 }
@@ -216,7 +154,7 @@ pub fn put_sure(s: &mut State, a: usize, b: usize)
 // a is not over before b.
 pub fn put_never(s: &mut State, a: usize, b: usize)
     requires { ⌜ (a < 24) × (b < 24) ⌝ }
-    ensures { λ _. ⌜ PutsBit (NotBefore a b) (nevers b) a (now (s .entry)) (now (s .exit)) ⌝ }
+    ensures { λ _. ⌜ PutsBit (NotAhead a b) (nevers b) a (now (s .entry)) (now (s .exit)) ⌝ }
 {
     put_bit(s, 4 * b + 5, a);
 }
@@ -224,14 +162,14 @@ pub fn put_never(s: &mut State, a: usize, b: usize)
 // The jobs of v are over before b.
 pub fn put_sures(s: &mut State, b: usize, v: u32)
     requires { ⌜ b < 24 ⌝ }
-    ensures { λ _. ⌜ Puts (AllBefore v b) (sures b) (bitOr (word (now (s .entry)) (sures b)) v) (now (s .entry)) (now (s .exit)) ⌝ }
+    ensures { λ _. ⌜ Puts (AllAhead v b) (sures b) (bitOr (wordAt (now (s .entry)) (sures b)) v) (now (s .entry)) (now (s .exit)) ⌝ }
 {
     put_bits(s, 4 * b + 4, v);
 }
 
 // Job j starts at x or later, which is no sooner than it was.
 pub fn put_lo(s: &mut State, j: usize, x: u32)
-    requires { ⌜ (j < 24) × (word (now s) (los j) ≤ x) ⌝ }
+    requires { ⌜ (j < 24) × (wordAt (now s) (los j) ≤ x) ⌝ }
     ensures { λ _. ⌜ Puts (From j x) (los j) x (now (s .entry)) (now (s .exit)) ⌝ }
 {
     put(s, 4 * j + 6, x);
@@ -239,7 +177,7 @@ pub fn put_lo(s: &mut State, j: usize, x: u32)
 
 // Job j starts at x or earlier, which is no later than it was.
 pub fn put_hi(s: &mut State, j: usize, x: u32)
-    requires { ⌜ (j < 24) × (x ≤ word (now s) (his j)) ⌝ }
+    requires { ⌜ (j < 24) × (x ≤ wordAt (now s) (his j)) ⌝ }
     ensures { λ _. ⌜ Puts (Till j x) (his j) x (now (s .entry)) (now (s .exit)) ⌝ }
 {
     put(s, 4 * j + 7, x);

@@ -9,8 +9,8 @@ use lib.Dec.{T}
 use Rattle.facts.specs.Facts.{has}
 use Rattle.rules.specs.Plans.{Plan, interfere}
 use Rattle.rules.proofs.Clash.{flip}
-use Rattle.states.specs.State.{Search, Has, St, Left, Out, Sure, Low, High}
-use Rattle.crowds.specs.Crowds.{Group, Away, Placed, Crowd, total, AllIn, Pile, Beside, AllBeside, Precede, Follow, All}
+use Rattle.states.specs.State.{Search, HasJob, St, Left, MustNot, Sure, Low, High}
+use Rattle.crowds.specs.Crowds.{Group, Away, GroupPlaced, CrowdOf, total, AllIn, Pile, Beside, AllBeside, Precede, Follow, All}
 use Rattle.crowds.proofs.Spans.{Span, Clear, AllClear, Within, length, room}
 use Rattle.crowds.proofs.Overload.{span, spans, spread, same, itself}
 
@@ -21,41 +21,41 @@ module _ (P : Search) (s : St) (from till : ℕ) where
   module _ (Q : Plan) (left : Left P s Q) where
     -- where each group's job lies between u and v, so do their spans
     abbrev Lies : (u v : ℕ) → Group → Type 0
-    Lies u v g = (a : ℕ) → T (has (g .jobs) a) → Has P Q a → (u ≤ Q a) × (Q a + g .long ≤ v)
+    Lies u v g = (a : ℕ) → T (has (g .jobs) a) → HasJob P Q a → (u ≤ Q a) × (Q a + g .long ≤ v)
 
-    within-of : (u v : ℕ) (l : List Group) (c : Crowd P s from till l) → All (Lies u v) l → Within u v (spans P s from till Q left l c)
+    within-of : (u v : ℕ) (l : List Group) (c : CrowdOf P s from till l) → All (Lies u v) l → Within u v (spans P s from till Q left l c)
     within-of u v [] c f = tt
     within-of u v (g ∷ l) (p, a, c) (f, r) = let x = p .some Q left in (f (x .0) (x .1) (x .2), within-of u v l c r)
 
-    lies : (l : List Group) → Crowd P s from till l → (u v : ℕ) → u ≤ from → till ≤ v → All (Lies u v) l
+    lies : (l : List Group) → CrowdOf P s from till l → (u v : ℕ) → u ≤ from → till ≤ v → All (Lies u v) l
     lies [] c u v o e = tt
     lies (g ∷ l) (p, a, c) u v o e =
         ((λ b h i. (omega (arith, p .lo b h, left .fits .stays .lo b i), omega (arith, p .hi b h, left .fits .stays .hi b i))), lies l c u v o e)
 
-    crowd-between : (u v : ℕ) (l : List Group) → u ≤ v → Crowd P s from till l → All (Lies u v) l → u + total l ≤ v
+    crowd-between : (u v : ℕ) (l : List Group) → u ≤ v → CrowdOf P s from till l → All (Lies u v) l → u + total l ≤ v
     crowd-between u v l o c f = omega (arith, same P s from till Q left l c, room u v (spans P s from till Q left l c) o (spread P s from till Q left l c) (within-of u v l c f))
 
-    module _ (k n : ℕ) (i : Has P Q k) where
+    module _ (k n : ℕ) (i : HasJob P Q k) where
       abbrev mine : Span
       mine = record { at = Q k; long = n }
 
-      beside : (g : Group) (p : Placed P s from till g) → Beside P s k n g → Clear mine (span P s from till Q left g p)
+      beside : (g : Group) (p : GroupPlaced P s from till g) → Beside P s k n g → Clear mine (span P s from till Q left g p)
       beside g p f =
           let x = p .some Q left in
           ⊎-elim (λ o. inl (f .there (x .0) (x .1) Q left i (x .2) o)) (λ o. inr (f .back (x .0) (x .1) Q left (x .2) i o))
           (left .first .ok .apart k (x .0) i (x .2) (f .hit (x .0) (x .1)))
 
-      all-beside : (l : List Group) (c : Crowd P s from till l) → AllBeside P s k n l → AllClear mine (spans P s from till Q left l c)
+      all-beside : (l : List Group) (c : CrowdOf P s from till l) → AllBeside P s k n l → AllClear mine (spans P s from till Q left l c)
       all-beside [] c f = tt
       all-beside (g ∷ l) (p, a, c) (f, r) = (beside g p f, all-beside l c r)
 
       -- a crowd and one job beside it between u and v
-      with-room : (u v : ℕ) (l : List Group) → u ≤ from → till ≤ v → Crowd P s from till l → AllBeside P s k n l → u ≤ Q k → Q k + n ≤ v → u + (n + total l) ≤ v
+      with-room : (u v : ℕ) (l : List Group) → u ≤ from → till ≤ v → CrowdOf P s from till l → AllBeside P s k n l → u ≤ Q k → Q k + n ≤ v → u + (n + total l) ≤ v
       unfolding length
       with-room u v l o e c b x y =
           omega (arith, same P s from till Q left l c, room u v (mine ∷ spans P s from till Q left l c) (omega arith) (all-beside l c b, spread P s from till Q left l c) ((x, y), within-of u v l c (lies l c u v o e)))
 
-  module _ (l : List Group) (c : Crowd P s from till l) (k n : ℕ) where
+  module _ (l : List Group) (c : CrowdOf P s from till l) (k n : ℕ) where
     module _ (b : AllBeside P s k n l) where
       -- k has no room among them but as the last: what interferes with it and starts by till is over before it
       pub last : (low : ℕ) → low ≤ from → low ≤ s .lo k → till < low + (n + total l) → (a : ℕ) → T (interfere (P .problem) a k) → Away P s k n a → s .hi a ≤ till → Sure P s a k
@@ -77,17 +77,17 @@ module _ (P : Search) (s : St) (from till : ℕ) where
           (left .first .ok .apart a k ia ik x)
 
   module _ (k n : ℕ) where
-    lies-behind : (Q : Plan) (left : Left P s Q) → Has P Q k → (l : List Group) → Crowd P s from till l → AllBeside P s k n l → All (Precede P s k) l → All (Lies Q left from (Q k)) l
+    lies-behind : (Q : Plan) (left : Left P s Q) → HasJob P Q k → (l : List Group) → CrowdOf P s from till l → AllBeside P s k n l → All (Precede P s k) l → All (Lies Q left from (Q k)) l
     lies-behind Q left i [] c b f = tt
     lies-behind Q left i (g ∷ l) (p, a, c) (b, r) (f, q) =
         ((λ x h j. (omega (arith, p .lo x h, left .fits .stays .lo x j), b .back x h Q left j i (f x h Q left j i))), lies-behind Q left i l c r q)
 
-    lies-ahead : (Q : Plan) (left : Left P s Q) → Has P Q k → (l : List Group) → Crowd P s from till l → AllBeside P s k n l → All (Follow P s k) l → All (Lies Q left (Q k + n) till) l
+    lies-ahead : (Q : Plan) (left : Left P s Q) → HasJob P Q k → (l : List Group) → CrowdOf P s from till l → AllBeside P s k n l → All (Follow P s k) l → All (Lies Q left (Q k + n) till) l
     lies-ahead Q left i [] c b f = tt
     lies-ahead Q left i (g ∷ l) (p, a, c) (b, r) (f, q) =
         ((λ x h j. (b .there x h Q left i j (f x h Q left i j), omega (arith, p .hi x h, left .fits .stays .hi x j))), lies-ahead Q left i l c r q)
 
-    module _ (g : Group) (l : List Group) (c : Crowd P s from till (g ∷ l)) (b : AllBeside P s k n (g ∷ l)) where
+    module _ (g : Group) (l : List Group) (c : CrowdOf P s from till (g ∷ l)) (b : AllBeside P s k n (g ∷ l)) where
       -- all of them are over before k: it waits for them all
       pub behind : All (Precede P s k) (g ∷ l) → Low P s k (from + total (g ∷ l))
       behind f Q left i =
@@ -97,7 +97,7 @@ module _ (P : Search) (s : St) (from till : ℕ) where
           crowd-between Q left from (Q k) (g ∷ l) (omega (arith, z .0, z .1)) c y
 
       -- k is over before all of them: it leaves them room
-      pub ahead : All (Follow P s k) (g ∷ l) → (Q : Plan) → Left P s Q → Has P Q k → Q k + n + total (g ∷ l) ≤ till
+      pub ahead : All (Follow P s k) (g ∷ l) → (Q : Plan) → Left P s Q → HasJob P Q k → Q k + n + total (g ∷ l) ≤ till
       ahead f Q left i =
           let y = lies-ahead Q left i (g ∷ l) c b f in
           let x = c .0 .some Q left in
@@ -136,21 +136,21 @@ module _ (P : Search) (s : St) (all from till sum members : ℕ) (p : Pile P s a
   unfolding total
   pile-behind h f Q left i = go (p .groups) (p .crowd) (p .known) (p .sum-is)
     where
-      go : (l : List Group) → Crowd P s from till l → AllIn P s all members l → total l ≡ sum → from + sum ≤ Q k
+      go : (l : List Group) → CrowdOf P s from till l → AllIn P s all members l → total l ≡ sum → from + sum ≤ Q k
       go [] c x e = absurd (omega arith)
       go (g ∷ l) c x e = omega (arith, behind P s from till k n g l c (besides (g ∷ l) x) (leads f (g ∷ l) x) Q left i)
 
   -- k is over before all of the pile
-  ahead-room : 0 < sum → ((a : ℕ) → T (has members a) → T (s .sure k a)) → (Q : Plan) → Left P s Q → Has P Q k → Q k + n + sum ≤ till
+  ahead-room : 0 < sum → ((a : ℕ) → T (has members a) → T (s .sure k a)) → (Q : Plan) → Left P s Q → HasJob P Q k → Q k + n + sum ≤ till
   unfolding total
   ahead-room h f Q left i = go (p .groups) (p .crowd) (p .known) (p .sum-is)
     where
-      go : (l : List Group) → Crowd P s from till l → AllIn P s all members l → total l ≡ sum → Q k + n + sum ≤ till
+      go : (l : List Group) → CrowdOf P s from till l → AllIn P s all members l → total l ≡ sum → Q k + n + sum ≤ till
       go [] c x e = absurd (omega arith)
       go (g ∷ l) c x e = omega (arith, ahead P s from till k n g l c (besides (g ∷ l) x) (trails f (g ∷ l) x) Q left i)
 
   pub pile-ahead : 0 < sum → ((a : ℕ) → T (has members a) → T (s .sure k a)) → (t : ℕ) → till ≤ t + n + sum → High P s k t
   pile-ahead h f t e Q left i = omega (arith, ahead-room h f Q left i)
 
-  pub pile-out : 0 < sum → ((a : ℕ) → T (has members a) → T (s .sure k a)) → till < n + sum → Out P s k
+  pub pile-out : 0 < sum → ((a : ℕ) → T (has members a) → T (s .sure k a)) → till < n + sum → MustNot P s k
   pile-out h f e Q left i = omega (arith, ahead-room h f Q left i)

@@ -14,50 +14,50 @@ use Rattle.rules.specs.Plans.{Plan, interfere}
 use Rattle.rules.proofs.Clash.{interfere-at}
 use Rattle.states.specs.State.{Search, St, Left, Dead, More}
 use Rattle.states.proofs.Keep.{left-back}
-use Rattle.crowds.specs.Crowds.{Group, SomeOf, Placed, Against, AllAgainst, Crowd, total, Sound, Seen, AllIn, Pile}
+use Rattle.crowds.specs.Crowds.{Group, SomeOf, GroupPlaced, Against, AllAgainst, CrowdOf, total, SoundGroup, GroupSeen, AllIn, Pile}
 use Rattle.crowds.proofs.Spans.{Span, Clear, AllClear, Spread, Within, length, room}
 
 module _ (P : Search) (s : St) (from till : ℕ) where
   module _ (Q : Plan) (left : Left P s Q) where
     -- the span of a group: of the job of it that the plan has
-    abbrev pub span : (g : Group) → Placed P s from till g → Span
+    abbrev pub span : (g : Group) → GroupPlaced P s from till g → Span
     span g p = record { at = Q (p .some Q left .0); long = g .long }
 
-    abbrev pub spans : (l : List Group) → Crowd P s from till l → List Span
+    abbrev pub spans : (l : List Group) → CrowdOf P s from till l → List Span
     spans [] c = []
     spans (g ∷ l) (p, a, c) = span g p ∷ spans l c
 
-    clear : (g h : Group) (p : Placed P s from till g) (q : Placed P s from till h) → Against P s g h → Clear (span g p) (span h q)
+    clear : (g h : Group) (p : GroupPlaced P s from till g) (q : GroupPlaced P s from till h) → Against P s g h → Clear (span g p) (span h q)
     clear g h p q f =
         let x = p .some Q left in
         let y = q .some Q left in
         ⊎-elim (λ o. inl (f .there (x .0) (y .0) (x .1) (y .1) Q left (x .2) (y .2) o)) (λ o. inr (f .back (x .0) (y .0) (x .1) (y .1) Q left (y .2) (x .2) o))
         (left .first .ok .apart (x .0) (y .0) (x .2) (y .2) (f .hit (x .0) (y .0) (x .1) (y .1)))
 
-    all-clear : (g : Group) (p : Placed P s from till g) (l : List Group) (c : Crowd P s from till l) → AllAgainst P s g l → AllClear (span g p) (spans l c)
+    all-clear : (g : Group) (p : GroupPlaced P s from till g) (l : List Group) (c : CrowdOf P s from till l) → AllAgainst P s g l → AllClear (span g p) (spans l c)
     all-clear g p [] c f = tt
     all-clear g p (h ∷ l) (q, a, c) (f, r) = (clear g h p q f, all-clear g p l c r)
 
-    pub spread : (l : List Group) (c : Crowd P s from till l) → Spread (spans l c)
+    pub spread : (l : List Group) (c : CrowdOf P s from till l) → Spread (spans l c)
     spread [] c = tt
     spread (g ∷ l) (p, a, c) = (all-clear g p l c a, spread l c)
 
-    within : (l : List Group) (c : Crowd P s from till l) → Within from till (spans l c)
+    within : (l : List Group) (c : CrowdOf P s from till l) → Within from till (spans l c)
     within [] c = tt
     within (g ∷ l) (p, a, c) =
         let x = p .some Q left in
         ((omega (arith, p .lo (x .0) (x .1), left .fits .stays .lo (x .0) (x .2)), omega (arith, p .hi (x .0) (x .1), left .fits .stays .hi (x .0) (x .2))), within l c)
 
-    pub same : (l : List Group) (c : Crowd P s from till l) → length (spans l c) ≡ total l
+    pub same : (l : List Group) (c : CrowdOf P s from till l) → length (spans l c) ≡ total l
     unfolding length total
     same [] c = refl
     same (g ∷ l) (p, a, c) = omega (arith, same l c)
 
-    pub crowd-room : (l : List Group) → from ≤ till → Crowd P s from till l → from + total l ≤ till
+    pub crowd-room : (l : List Group) → from ≤ till → CrowdOf P s from till l → from + total l ≤ till
     crowd-room l o c = omega (arith, same l c, room from till (spans l c) o (spread l c) (within l c))
 
   -- overload
-  pub overload : (l : List Group) → from ≤ till → Crowd P s from till l → till < from + total l → Dead P s
+  pub overload : (l : List Group) → from ≤ till → CrowdOf P s from till l → till < from + total l → Dead P s
   overload l o c h Q left = omega (arith, crowd-room Q left l o c)
 
 -- ── a crowd that grows by a test on words ──
@@ -66,10 +66,10 @@ pub itself : (P : Search) (a : ℕ) → T (interfere (P .problem) a a) → ⊥
 itself P a h = interfere-at (P .problem) a a h .0 refl
 
 module _ (P : Search) (s : St) where
-  placed-later : (from till more : ℕ) (g : Group) → till ≤ more → Placed P s from till g → Placed P s from more g
+  placed-later : (from till more : ℕ) (g : Group) → till ≤ more → GroupPlaced P s from till g → GroupPlaced P s from more g
   placed-later from till more g l p = record { some = p .some; lo = p .lo; hi = λ a h. omega (arith, p .hi a h) }
 
-  crowd-later : (from till more : ℕ) (l : List Group) → till ≤ more → Crowd P s from till l → Crowd P s from more l
+  crowd-later : (from till more : ℕ) (l : List Group) → till ≤ more → CrowdOf P s from till l → CrowdOf P s from more l
   crowd-later from till more [] o c = tt
   crowd-later from till more (g ∷ l) o (p, a, c) = (placed-later from till more g o p, a, crowd-later from till more l o c)
 
@@ -79,7 +79,7 @@ module _ (P : Search) (s : St) where
     in-more v w f (g ∷ l) ((x, k), r) = ((x, λ a h. f a (k a h)), in-more v w f l r)
 
     -- a group that interferes with all jobs of the word is against all groups in it
-    against-all : (g : Group) (w : ℕ) → Sound P s all g → ((a b : ℕ) → T (has (g .jobs) a) → T (has w b) → T (interfere (P .problem) a b))
+    against-all : (g : Group) (w : ℕ) → SoundGroup P s all g → ((a b : ℕ) → T (has (g .jobs) a) → T (has w b) → T (interfere (P .problem) a b))
         → (l : List Group) → AllIn P s all w l → AllAgainst P s g l
     against-all g w x f [] k = tt
     against-all g w x f (h ∷ l) ((y, k), r) = (
@@ -96,7 +96,7 @@ module _ (P : Search) (s : St) where
     pile-none from = record { groups = []; crowd = tt; known = tt; sum-is = refl; after = omega arith; lo = λ a h. absurd (has-zero a h); hi = λ a h. absurd (has-zero a h) }
 
     -- one group more, where the word of all jobs so far is among those that interfere with it
-    pub pile-add : (from till sum members : ℕ) (g : Group) (others low gone later : ℕ) → Sound P s all g → Seen P s g others low gone → from ≤ low
+    pub pile-add : (from till sum members : ℕ) (g : Group) (others low gone later : ℕ) → SoundGroup P s all g → GroupSeen P s g others low gone → from ≤ low
         → ((b : ℕ) → T (has members b) → T (has others b)) → till ≤ later → gone ≤ later
         → Pile P s all from till sum members → Pile P s all from later (sum + g .long) (bitOr members (g .jobs))
     unfolding total
@@ -125,10 +125,10 @@ module _ (P : Search) (s t : St) (m : More s t) where
   pub some-more : (w : ℕ) → SomeOf P s w → SomeOf P t w
   some-more w x Q l = x Q (left-back m l)
 
-  pub sound-more : (all : ℕ) (g : Group) → Sound P s all g → Sound P t all g
+  pub sound-more : (all : ℕ) (g : Group) → SoundGroup P s all g → SoundGroup P t all g
   sound-more all g x = record { some = some-more (g .jobs) (x .some); inner = x .inner; spaced = λ a b i j n Q l. x .spaced a b i j n Q (left-back m l) }
 
-  pub seen-more : (g : Group) (others low gone : ℕ) → Seen P s g others low gone → Seen P t g others low gone
+  pub seen-more : (g : Group) (others low gone : ℕ) → GroupSeen P s g others low gone → GroupSeen P t g others low gone
   seen-more g others low gone x = record { hits = x .hits; lo = λ a i. omega (arith, x .lo a i, m .lo a); hi = λ a i. omega (arith, x .hi a i, m .hi a) }
 
   against-more : (g h : Group) → Against P s g h → Against P t g h
@@ -138,7 +138,7 @@ module _ (P : Search) (s t : St) (m : More s t) where
   all-against-more g [] x = tt
   all-against-more g (h ∷ l) (x, r) = (against-more g h x, all-against-more g l r)
 
-  crowd-more : (from till : ℕ) (l : List Group) → Crowd P s from till l → Crowd P t from till l
+  crowd-more : (from till : ℕ) (l : List Group) → CrowdOf P s from till l → CrowdOf P t from till l
   crowd-more from till [] c = tt
   crowd-more from till (g ∷ l) (p, a, c) =
       (record { some = some-more (g .jobs) (p .some); lo = λ b i. omega (arith, p .lo b i, m .lo b); hi = λ b i. omega (arith, p .hi b i, m .hi b) }, all-against-more g l a, crowd-more from till l c)

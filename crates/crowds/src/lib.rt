@@ -5,11 +5,12 @@ ghost use mathlib.Core.List.{List};
 ghost use Prim.Native.Nat.{ℕ, _≤_, _<_};
 ghost use lib.Dec.{T};
 ghost use Rattle.states.specs.State.{Search, there};
-ghost use Rattle.cells.specs.View.{view, Prunes, Says, Before};
-ghost use Rattle.facts.specs.Facts.{has, Covers};
+ghost use Rattle.cells.specs.View.{view, Prunes, Says, IsAhead};
+ghost use Rattle.facts.specs.Facts.{has};
+ghost use Rattle.facts.specs.Words.{Covers};
 ghost use Rattle.lent.specs.Lent.{wantsOf, hitsOf, Lent};
-ghost use Rattle.lent.specs.Consumers.{who};
-ghost use Rattle.crowds.specs.Heaps.{Nearer, Held, Outside, Holds, AllHold, Later, Latest, Late, Clash, Joins, Heaps, Chosen, AllChosen, Grows, Stands, AllAfter, Heaped, Trusted, Offered};
+ghost use Rattle.lent.specs.Consumers.{whoAt};
+ghost use Rattle.crowds.specs.Heaps.{KeepsFor, KeepsAllFor, Remainder, KeepsAway, AllKeepAway, NotBelow, Latest, StartsFrom, GroupClash, Joins, Heaps, OneIn, AllOneIn, Grows, StandsBeside, AllAfter, Heaped, Trusted, GroupsOf};
 use cells::State;
 use lent::Tables;
 
@@ -49,7 +50,7 @@ fn later(x: u64, y: u64) -> u64
 // The smaller of m and how long job a keeps b away, if b can be behind it.
 fn nearer(s: &State, t: &Tables, a: usize, b: usize, m: u32) -> u32
     requires { ⌜ a < 24 ⌝ }
-    ensures { λ r. ⌜ Nearer (now (s .entry)) (now (t .entry)) a b m r ⌝ }
+    ensures { λ r. ⌜ KeepsFor (now (s .entry)) (now (t .entry)) a b m r ⌝ }
 {
     if 24 <= b {
         return m;
@@ -66,7 +67,7 @@ fn nearer(s: &State, t: &Tables, a: usize, b: usize, m: u32) -> u32
 
 // The smaller of m and how long job a keeps every job of the word away.
 fn hold(s: &State, t: &Tables, a: usize, w: u32, m: u32) -> u32
-    ensures { λ r. ⌜ Held (now (s .entry)) (now (t .entry)) w a m r ⌝ }
+    ensures { λ r. ⌜ KeepsAllFor (now (s .entry)) (now (t .entry)) w a m r ⌝ }
 {
     if 24 <= a {
         return m;
@@ -74,39 +75,39 @@ fn hold(s: &State, t: &Tables, a: usize, w: u32, m: u32) -> u32
     let mut x = m;
     let mut v = w;
     while v != 0 {
-        x = nearer(s, t, a, cells::lowest(v), x);
-        v = cells::rest(v);
+        x = nearer(s, t, a, jobs::lowest(v), x);
+        v = jobs::rest(v);
     }
     x
 }
 
 // The jobs of w that are not in v.
 fn outside(w: u32, v: u32) -> u32
-    ensures { λ r. ⌜ Outside w v r ⌝ }
+    ensures { λ r. ⌜ Remainder w v r ⌝ }
 {
     w & !v
 }
 
 // How long the jobs of a group keep all jobs of the crowd outside it away, if it is one of the crowd.
 fn holds(s: &State, t: &Tables, w: u32, group: u32) -> u32
-    ensures { λ r. ⌜ Holds (now (s .entry)) (now (t .entry)) w group r ⌝ }
+    ensures { λ r. ⌜ KeepsAway (now (s .entry)) (now (t .entry)) w group r ⌝ }
 {
-    if !cells::within(group, w) {
+    if !jobs::within(group, w) {
         return 0;
     }
     let others = outside(w, group);
     let mut x: u32 = 65535;
     let mut v = group;
     while v != 0 {
-        x = hold(s, t, cells::lowest(v), others, x);
-        v = cells::rest(v);
+        x = hold(s, t, jobs::lowest(v), others, x);
+        v = jobs::rest(v);
     }
     x
 }
 
 // The same for every group.
 fn lengths(s: &State, t: &Tables, w: u32, words: [u32; 24]) -> [u32; 24]
-    ensures { λ r. ⌜ AllHold (now (s .entry)) (now (t .entry)) w words r 24 ⌝ }
+    ensures { λ r. ⌜ AllKeepAway (now (s .entry)) (now (t .entry)) w words r 24 ⌝ }
 {
     let mut long = [0u32; 24];
     for a in 0..24 {
@@ -117,7 +118,7 @@ fn lengths(s: &State, t: &Tables, w: u32, words: [u32; 24]) -> [u32; 24]
 
 // The later of m and the latest start of job a.
 fn further(s: &State, a: usize, m: u32) -> u32
-    ensures { λ r. ⌜ Later (now (s .entry)) a m r ⌝ }
+    ensures { λ r. ⌜ NotBelow (now (s .entry)) a m r ⌝ }
 {
     if 24 <= a {
         return m;
@@ -136,8 +137,8 @@ fn latest(s: &State, group: u32) -> u32
     let mut x: u32 = 0;
     let mut v = group;
     while v != 0 {
-        x = further(s, cells::lowest(v), x);
-        v = cells::rest(v);
+        x = further(s, jobs::lowest(v), x);
+        v = jobs::rest(v);
     }
     x
 }
@@ -172,11 +173,11 @@ fn soonest(gone: [u64; 24], w: u32) -> usize {
     let mut best: usize = 24;
     let mut v = w;
     while v != 0 {
-        let j = cells::lowest(v);
+        let j = jobs::lowest(v);
         if end(gone, j) < end(gone, best) {
             best = j;
         }
-        v = cells::rest(v);
+        v = jobs::rest(v);
     }
     best
 }
@@ -186,7 +187,7 @@ fn without(w: u32, j: usize) -> u32 {
     if 24 <= j {
         return 0;
     }
-    outside(w, cells::with(0, j))
+    outside(w, jobs::with(0, j))
 }
 
 // The groups of the word by their latest ends. Any order is right; this one finds most.
@@ -219,14 +220,14 @@ fn late_at(s: &State, j: usize, from: u32) -> bool
 
 // All jobs of a group do.
 fn late(s: &State, group: u32, from: u32) -> bool
-    ensures { λ r. ⌜ (r ≡ true → Late (now (s .entry)) group from) ⌝ }
+    ensures { λ r. ⌜ (r ≡ true → StartsFrom (now (s .entry)) group from) ⌝ }
 {
     let mut v = group;
     while v != 0 {
-        if !late_at(s, cells::lowest(v), from) {
+        if !late_at(s, jobs::lowest(v), from) {
             return false;
         }
-        v = cells::rest(v);
+        v = jobs::rest(v);
     }
     true
 }
@@ -238,19 +239,19 @@ fn clash_at(t: &Tables, j: usize, w: u32) -> bool
     if 24 <= j {
         return false;
     }
-    cells::within(w, lent::hits(t, j))
+    jobs::within(w, lent::hits(t, j))
 }
 
 // All jobs of a group do.
 fn clash(t: &Tables, group: u32, w: u32) -> bool
-    ensures { λ r. ⌜ (r ≡ true → Clash (now (t .entry)) group w) ⌝ }
+    ensures { λ r. ⌜ (r ≡ true → GroupClash (now (t .entry)) group w) ⌝ }
 {
     let mut v = group;
     while v != 0 {
-        if !clash_at(t, cells::lowest(v), w) {
+        if !clash_at(t, jobs::lowest(v), w) {
             return false;
         }
-        v = cells::rest(v);
+        v = jobs::rest(v);
     }
     true
 }
@@ -262,7 +263,7 @@ fn joins(s: &State, t: &Tables, w: u32, group: u32, h: Heap) -> bool
     if group == 0 {
         return false;
     }
-    if !cells::within(group, w) {
+    if !jobs::within(group, w) {
         return false;
     }
     if !late(s, group, h.from) {
@@ -291,7 +292,7 @@ fn join(s: &State, t: &Tables, c: Crowd, j: usize, h: Heap) -> Heap
     Heap {
         from: h.from,
         members: h.members | group,
-        sum: h.sum + cells::wide(x),
+        sum: h.sum + jobs::wide(x),
         till: later(h.till, gone),
     }
 }
@@ -309,10 +310,10 @@ fn sooner(x: u64, y: u64) -> u64
 // Job k comes behind all of the heap, if it has room nowhere else.
 fn last(s: &mut State, t: &Tables, w: u32, h: Heap, k: usize)
     requires { ⌜ (k < 24) × (h .sum ≤ 5000000) ⌝ }
-    ensures { λ _. ⌜ Prunes (Stands (now (t .entry)) (now (s .entry)) w h k) (now (s .entry)) (now (s .exit)) ⌝ }
+    ensures { λ _. ⌜ Prunes (StandsBeside (now (t .entry)) (now (s .entry)) w h k) (now (s .entry)) (now (s .exit)) ⌝ }
 {
-    let low = sooner(cells::wide(h.from), cells::wide(cells::lo(s, k)));
-    let n = cells::wide(lent::step(t, k));
+    let low = sooner(jobs::wide(h.from), jobs::wide(cells::lo(s, k)));
+    let n = jobs::wide(lent::step(t, k));
     if h.till < low + (n + h.sum) {
         cells::put_sures(s, k, h.members);
     }
@@ -321,7 +322,7 @@ fn last(s: &mut State, t: &Tables, w: u32, h: Heap, k: usize)
 // Job k is over before job a.
 fn ahead(s: &mut State, k: usize, a: usize)
     requires { ⌜ k < 24 ⌝ }
-    ensures { λ _. ⌜ Says (Before k a) (now (s .entry)) (now (s .exit)) ⌝ }
+    ensures { λ _. ⌜ Says (IsAhead k a) (now (s .entry)) (now (s .exit)) ⌝ }
 {
     if 24 <= a {
         return;
@@ -336,19 +337,19 @@ fn ahead_all(s: &mut State, k: usize, w: u32)
 {
     let mut v = w;
     while v != 0 {
-        ahead(s, k, cells::lowest(v));
-        v = cells::rest(v);
+        ahead(s, k, jobs::lowest(v));
+        v = jobs::rest(v);
     }
 }
 
 // Job k comes before all of the heap, if it has room nowhere else.
 fn first(s: &mut State, t: &Tables, w: u32, h: Heap, k: usize)
     requires { ⌜ (k < 24) × (h .sum ≤ 5000000) ⌝ }
-    ensures { λ _. ⌜ Prunes (Stands (now (t .entry)) (now (s .entry)) w h k) (now (s .entry)) (now (s .exit)) ⌝ }
+    ensures { λ _. ⌜ Prunes (StandsBeside (now (t .entry)) (now (s .entry)) w h k) (now (s .entry)) (now (s .exit)) ⌝ }
 {
     let n = lent::step(t, k);
     let high = later(h.till, cells::sum(cells::hi(s, k), n));
-    if high < cells::wide(h.from) + (cells::wide(n) + h.sum) {
+    if high < jobs::wide(h.from) + (jobs::wide(n) + h.sum) {
         ahead_all(s, k, h.members);
     }
 }
@@ -356,13 +357,13 @@ fn first(s: &mut State, t: &Tables, w: u32, h: Heap, k: usize)
 // Job k waits for all of the heap, if they surely come before it.
 fn after(s: &mut State, t: &Tables, w: u32, h: Heap, k: usize)
     requires { ⌜ (k < 24) × (h .sum ≤ 5000000) ⌝ }
-    ensures { λ _. ⌜ Prunes (Stands (now (t .entry)) (now (s .entry)) w h k) (now (s .entry)) (now (s .exit)) ⌝ }
+    ensures { λ _. ⌜ Prunes (StandsBeside (now (t .entry)) (now (s .entry)) w h k) (now (s .entry)) (now (s .exit)) ⌝ }
 {
     if h.sum == 0 {
         return;
     }
-    if cells::within(h.members, cells::row_sure(s, k)) {
-        orders::from(s, k, cells::wide(h.from) + h.sum);
+    if jobs::within(h.members, cells::row_sure(s, k)) {
+        orders::from(s, k, jobs::wide(h.from) + h.sum);
     }
 }
 
@@ -374,10 +375,10 @@ fn beside(s: &mut State, t: &Tables, w: u32, h: Heap, k: usize)
     if 24 <= k {
         return;
     }
-    if !cells::has(w, k) {
+    if !jobs::has(w, k) {
         return;
     }
-    if !cells::within(h.members, lent::hits(t, k)) {
+    if !jobs::within(h.members, lent::hits(t, k)) {
         return;
     }
     last(s, t, w, h, k);
@@ -392,8 +393,8 @@ fn beside_all(s: &mut State, t: &Tables, w: u32, h: Heap)
 {
     let mut v = outside(w, h.members);
     while v != 0 {
-        beside(s, t, w, h, cells::lowest(v));
-        v = cells::rest(v);
+        beside(s, t, w, h, jobs::lowest(v));
+        v = jobs::rest(v);
     }
 }
 
@@ -423,7 +424,7 @@ fn full_from(s: &mut State, t: &Tables, c: Crowd, from: u32) -> bool
         from,
         members: 0,
         sum: 0,
-        till: cells::wide(from),
+        till: jobs::wide(from),
     };
     for k in 0..24 {
         let j = c.order[k];
@@ -432,7 +433,7 @@ fn full_from(s: &mut State, t: &Tables, c: Crowd, from: u32) -> bool
         }
         let old = h.members;
         h = join(s, t, c, j, h);
-        if h.till < cells::wide(from) + h.sum {
+        if h.till < jobs::wide(from) + h.sum {
             cells::kill(s);
             return true;
         }
@@ -468,8 +469,8 @@ fn longest(t: &Tables, w: u32) -> u32 {
     let mut m: u32 = 0;
     let mut v = w;
     while v != 0 {
-        m = longer(t, cells::lowest(v), m);
-        v = cells::rest(v);
+        m = longer(t, jobs::lowest(v), m);
+        v = jobs::rest(v);
     }
     m
 }
@@ -484,7 +485,7 @@ fn earliest(s: &State, i: usize) -> u32 {
 
 // The groups with these jobs have no room one beside the other.
 fn overfull(s: &mut State, t: &Tables, g: Groups, w: u32) -> bool
-    ensures { λ _. ⌜ Prunes (Offered (now (t .entry)) (now (s .entry)) g) (now (s .entry)) (now (s .exit)) ⌝ }
+    ensures { λ _. ⌜ Prunes (GroupsOf (now (t .entry)) (now (s .entry)) g) (now (s .entry)) (now (s .exit)) ⌝ }
 {
     let words = g.words;
     let long = lengths(s, t, w, words);
@@ -500,12 +501,12 @@ fn overfull(s: &mut State, t: &Tables, g: Groups, w: u32) -> bool
     let mut last: u32 = 4294967295;
     let mut v = w;
     while v != 0 {
-        let from = earliest(s, cells::lowest(v));
+        let from = earliest(s, jobs::lowest(v));
         if full_at(s, t, c, from, last) {
             return true;
         }
         last = from;
-        v = cells::rest(v);
+        v = jobs::rest(v);
     }
     false
 }
@@ -532,20 +533,20 @@ fn gather(t: &Tables, g: Groups, i: usize) -> u32 {
     }
     let mut v = g.used & lent::hits(t, i);
     while v != 0 {
-        w = more(t, g, w, cells::lowest(v));
-        v = cells::rest(v);
+        w = more(t, g, w, jobs::lowest(v));
+        v = jobs::rest(v);
     }
     w
 }
 
 // The groups with these jobs have no room, if there are two and they are others than the last.
 fn tells(s: &mut State, t: &Tables, g: Groups, w: u32, last: u32) -> bool
-    ensures { λ _. ⌜ Prunes (Offered (now (t .entry)) (now (s .entry)) g) (now (s .entry)) (now (s .exit)) ⌝ }
+    ensures { λ _. ⌜ Prunes (GroupsOf (now (t .entry)) (now (s .entry)) g) (now (s .entry)) (now (s .exit)) ⌝ }
 {
     if w == 0 {
         return false;
     }
-    if cells::rest(w) == 0 {
+    if jobs::rest(w) == 0 {
         return false;
     }
     if w == last {
@@ -556,17 +557,17 @@ fn tells(s: &mut State, t: &Tables, g: Groups, w: u32, last: u32) -> bool
 
 // Some groups that exclude each other have no room, one of them that of a job of the word.
 fn some_full(s: &mut State, t: &Tables, g: Groups, first: u32) -> bool
-    ensures { λ _. ⌜ Prunes (Offered (now (t .entry)) (now (s .entry)) g) (now (s .entry)) (now (s .exit)) ⌝ }
+    ensures { λ _. ⌜ Prunes (GroupsOf (now (t .entry)) (now (s .entry)) g) (now (s .entry)) (now (s .exit)) ⌝ }
 {
     let mut last: u32 = 0;
     let mut v = first;
     while v != 0 {
-        let w = gather(t, g, cells::lowest(v));
+        let w = gather(t, g, jobs::lowest(v));
         if tells(s, t, g, w, last) {
             return true;
         }
         last = w;
-        v = cells::rest(v);
+        v = jobs::rest(v);
     }
     false
 }
@@ -574,17 +575,17 @@ fn some_full(s: &mut State, t: &Tables, g: Groups, first: u32) -> bool
 // Job j alone, if it is inside.
 fn alone_at(s: &State, j: usize) -> u32
     requires { ⌜ j < 24 ⌝ }
-    ensures { λ r. ⌜ ((P : Search) → Chosen P (now (s .entry)) r) ⌝ }
+    ensures { λ r. ⌜ ((P : Search) → OneIn P (now (s .entry)) r) ⌝ }
 {
     if !cells::inside(s, j) {
         return 0;
     }
-    cells::with(0, j)
+    jobs::with(0, j)
 }
 
 // The jobs inside, each alone.
 fn alone(s: &State) -> Groups
-    ensures { λ r. ⌜ ((P : Search) → AllChosen P (now (s .entry)) (r .words) 24) ⌝ }
+    ensures { λ r. ⌜ ((P : Search) → AllOneIn P (now (s .entry)) (r .words) 24) ⌝ }
 {
     let mut words = [0u32; 24];
     for j in 0..24 {
@@ -610,7 +611,7 @@ fn ready(s: &State, b: usize, w: u32) -> u32
 // All candidates for the fact p of the consumer b, if it is there and Start is none.
 fn several(s: &State, t: &Tables, b: usize, p: usize) -> u32
     requires { ⌜ (b ≤ 24) × (p < 64) ⌝ }
-    ensures { λ r. ⌜ (T (has (wantsOf (now (t .entry)) b) p) → T (there (view (now (s .entry))) (who b)) → (P : Search) → Lent (now (t .entry)) P → Chosen P (now (s .entry)) r) ⌝ }
+    ensures { λ r. ⌜ (T (has (wantsOf (now (t .entry)) b) p) → T (there (view (now (s .entry))) (whoAt b)) → (P : Search) → Lent (now (t .entry)) P → OneIn P (now (s .entry)) r) ⌝ }
 {
     let adders = lent::adders(t, p);
     if ready(s, b, adders) != 0 {
@@ -626,7 +627,7 @@ fn several(s: &State, t: &Tables, b: usize, p: usize) -> u32
 // The same, if p is a condition of b.
 fn condition(s: &State, t: &Tables, b: usize, p: usize) -> u32
     requires { ⌜ b ≤ 24 ⌝ }
-    ensures { λ r. ⌜ (T (there (view (now (s .entry))) (who b)) → (P : Search) → Lent (now (t .entry)) P → Chosen P (now (s .entry)) r) ⌝ }
+    ensures { λ r. ⌜ (T (there (view (now (s .entry))) (whoAt b)) → (P : Search) → Lent (now (t .entry)) P → OneIn P (now (s .entry)) r) ⌝ }
 {
     if 64 <= p {
         return 0;
@@ -639,9 +640,9 @@ fn condition(s: &State, t: &Tables, b: usize, p: usize) -> u32
 
 // The word more, if no job of it is used.
 fn noted(g: Groups, w: u32) -> Groups
-    ensures { λ r. ⌜ ((P : Search) (s : List ℕ) → Chosen P s w → AllChosen P s (g .words) 24 → AllChosen P s (r .words) 24) ⌝ }
+    ensures { λ r. ⌜ ((P : Search) (s : List ℕ) → OneIn P s w → AllOneIn P s (g .words) 24 → AllOneIn P s (r .words) 24) ⌝ }
 {
-    let j = cells::lowest(w);
+    let j = jobs::lowest(w);
     if 24 <= j {
         return g;
     }
@@ -675,7 +676,7 @@ fn consumer(s: &State, t: &Tables, b: usize, g: Groups) -> Groups
 
 // The jobs inside, each alone, and the words of all consumers.
 fn words_of(s: &State, t: &Tables) -> Groups
-    ensures { λ r. ⌜ ((P : Search) → Lent (now (t .entry)) P → AllChosen P (now (s .entry)) (r .words) 24) ⌝ }
+    ensures { λ r. ⌜ ((P : Search) → Lent (now (t .entry)) P → AllOneIn P (now (s .entry)) (r .words) 24) ⌝ }
 {
     let mut g = alone(s);
     for b in 0..25 {

@@ -9,12 +9,12 @@ use borrow.Author.Tests.{le-ltb, eq-eqb}
 use lib.Dec.{T, ltb}
 use lib.ListN.{length, getD}
 use Rattle.facts.proofs.Bools.{or-l, or-r, at-most}
-use Rattle.rules.specs.Refusals.{accepted}
+use Rattle.refusals.specs.Refusals.{accepted}
 use Rattle.rules.specs.Table.{Problem, tableChecks, boundCheck}
 use Rattle.rules.specs.Plans.{Plan, starts, Valid}
 use Rattle.rules.specs.Pairs.{binds, pairBytes}
 use Rattle.rules.specs.Execution.{began, finished, Log, Allowed}
-use Rattle.rules.proofs.Refused.{if-zero}
+use Rattle.refusals.proofs.Refused.{if-zero}
 use Rattle.rules.proofs.Orders.{wider}
 use Rattle.rules.proofs.Performed.{demand3}
 use Rattle.tables.specs.declared.Loaded.{Loaded}
@@ -30,12 +30,12 @@ use Rattle.bindings.specs.Bindings.{Pairs, pairVerdict, written}
 use Rattle.bindings.proofs.Count.{pairs-room}
 use Rattle.planning.specs.Planning.{planningChecks, PlansWithin, BoundsWithin}
 use Rattle.planning.proofs.Found.{plan-found, bound-found}
-use Rattle.demands.specs.Kept.{Listed, AllowedBy, Foreman}
+use Rattle.demands.specs.Kept.{InBytes, AllowedBy, Foreman}
 use Rattle.demands.proofs.Listed.{listed}
 use Rattle.demands.proofs.SamePlan.{valid-same}
 
 -- what keeps the pairs listed keeps the binding pairs
-allowed : (P : Problem) (s : Plan) (bytes : List ℕ) (n : ℕ) → ((a b : ℕ) → a < P .count → b < P .count → T (binds P s a b) → Listed bytes n a b) → (h : Log) → AllowedBy P s bytes n h → Allowed P s h
+allowed : (P : Problem) (s : Plan) (bytes : List ℕ) (n : ℕ) → ((a b : ℕ) → a < P .count → b < P .count → T (binds P s a b) → InBytes bytes n a b) → (h : Log) → AllowedBy P s bytes n h → Allowed P s h
 allowed P s bytes n k [] x = tt
 allowed P s bytes n k (began j ∷ h) (m, x) =
     (record { there = m .there; once = m .once; free = λ a i t. m .free a (k a j (i .below) (m .there .below) t) }, allowed P s bytes n k h x)
@@ -58,10 +58,10 @@ module _ (l : Loaded) (q : Ask) (s old new : List ℕ) (r : Answer) (p : Pairs l
       value : r .value ≡ length (pairBytes (problem l q) (starts s)) / 2
       value = ap (λ (x : Answer). x .value) (p .says) ∙ simp (eq-eqb _ _ v)
 
-      here : (a b : ℕ) → a < q .jobs → b < q .jobs → T (binds (problem l q) (starts s) a b) → Listed new (r .value) a b
+      here : (a b : ℕ) → a < q .jobs → b < q .jobs → T (binds (problem l q) (starts s) a b) → InBytes new (r .value) a b
       here a b i j t =
-          subst (λ (x : List ℕ). Listed x (r .value) a b) (sym bytes)
-          (subst (λ (n : ℕ). Listed (written (pairBytes (problem l q) (starts s)) old) n a b) (sym value)
+          subst (λ (x : List ℕ). InBytes x (r .value) a b) (sym bytes)
+          (subst (λ (n : ℕ). InBytes (written (pairBytes (problem l q) (starts s)) old) n a b) (sym value)
           (listed (problem l q) (starts s) old a b (omega (arith, at-most (length old) 552 (ok .room), pairs-room (problem l q) (starts s) (ok .clear .order) (ok .clear .few))) i j t))
 
 -- ── a plan that was found ──

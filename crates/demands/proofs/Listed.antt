@@ -11,10 +11,10 @@ use lib.ListN.{length, getD, length-append, List·getD-append}
 use Rattle.facts.proofs.Bools.{below-suc}
 use Rattle.rules.specs.Table.{Problem}
 use Rattle.rules.specs.Plans.{Plan}
-use Rattle.rules.specs.Pairs.{binds, inOrder, pairIf, pairBytes}
+use Rattle.rules.specs.Pairs.{binds, joined, pairIf, pairBytes}
 use Rattle.tables.proofs.Lent.{filled-at}
 use Rattle.bindings.specs.Bindings.{written}
-use Rattle.demands.specs.Kept.{Listed}
+use Rattle.demands.specs.Kept.{InBytes}
 
 -- a, then b, at an even place of the list
 record At (ys : List ℕ) (a b : ℕ) : Type 0 where
@@ -48,20 +48,20 @@ at-right ys zs (k, e) h = record {
   second = behind ys zs (2 * h .i + 1) (2 * (k + h .i) + 1) (omega (arith, e)) ∙ h .second;
 }
 
-even-in-order : (f : ℕ → List ℕ) (n : ℕ) → ((i : ℕ) → Even (f i)) → Even (inOrder f n)
-unfolding inOrder
+even-in-order : (f : ℕ → List ℕ) (n : ℕ) → ((i : ℕ) → Even (f i)) → Even (joined f n)
+unfolding joined
 even-in-order f zero h = (0, refl)
 even-in-order f (suc k) h =
     let a = even-in-order f k h in
     let b = h k in
-    (a .0 + b .0, omega (arith, length-append (inOrder f k) (f k), a .1, b .1))
+    (a .0 + b .0, omega (arith, length-append (joined f k) (f k), a .1, b .1))
 
-at-in-order : (f : ℕ → List ℕ) (n k : ℕ) {a b : ℕ} → ((i : ℕ) → Even (f i)) → k < n → At (f k) a b → At (inOrder f n) a b
-unfolding inOrder
+at-in-order : (f : ℕ → List ℕ) (n k : ℕ) {a b : ℕ} → ((i : ℕ) → Even (f i)) → k < n → At (f k) a b → At (joined f n) a b
+unfolding joined
 at-in-order f zero k h l x = absurd (omega arith)
 at-in-order f (suc m) k {a} {b} h l x = ⊎-elim
-    (λ i. at-left (inOrder f m) (f m) (at-in-order f m k h i x))
-    (λ e. at-right (inOrder f m) (f m) (even-in-order f m h) (subst (λ (y : ℕ). At (f y) a b) e x))
+    (λ i. at-left (joined f m) (f m) (at-in-order f m k h i x))
+    (λ e. at-right (joined f m) (f m) (even-in-order f m h) (subst (λ (y : ℕ). At (f y) a b) e x))
     (below-suc k m l)
 
 even-pair : (t : Bool) (a b : ℕ) → Even (pairIf t a b)
@@ -76,12 +76,12 @@ at-pair false a b h = absurd h
 
 at-pairs : (P : Problem) (s : Plan) (a b : ℕ) → a < P .count → b < P .count → T (binds P s a b) → At (pairBytes P s) a b
 unfolding pairBytes
-at-pairs P s a b l m h = at-in-order (λ a. inOrder (λ b. pairIf (binds P s a b) a b) (P .count)) (P .count) a (λ i. even-in-order (λ b. pairIf (binds P s i b) i b) (P .count) (λ j. even-pair (binds P s i j) i j)) l
+at-pairs P s a b l m h = at-in-order (λ a. joined (λ b. pairIf (binds P s a b) a b) (P .count)) (P .count) a (λ i. even-in-order (λ b. pairIf (binds P s i b) i b) (P .count) (λ j. even-pair (binds P s i j) i j)) l
     (at-in-order (λ b. pairIf (binds P s a b) a b) (P .count) b (λ j. even-pair (binds P s a j) a j) m (at-pair (binds P s a b) a b h))
 
 -- a binding pair is listed in the bytes written, if they have room
 pub listed : (P : Problem) (s : Plan) (old : List ℕ) (a b : ℕ) → length (pairBytes P s) ≤ length old → a < P .count → b < P .count → T (binds P s a b)
-    → Listed (written (pairBytes P s) old) (length (pairBytes P s) / 2) a b
+    → InBytes (written (pairBytes P s) old) (length (pairBytes P s) / 2) a b
 listed P s old a b r l m h =
     let x = at-pairs P s a b l m h in (
       x .i,

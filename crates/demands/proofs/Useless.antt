@@ -10,8 +10,9 @@ use borrow.Author.Tests.{le-ltb}
 use lib.ListN.{length, getD}
 use Rattle.facts.specs.Facts.{has, after}
 use Rattle.facts.specs.Least.{least, further, any}
-use Rattle.rules.specs.Refusals.{Verdict, accepted, refused, refuseIf, refuseAt}
-use Rattle.rules.specs.Table.{Problem, InOrder, between, strays, jobStrays, undoes, jobChecks, tableChecks, boundCheck}
+use Rattle.refusals.specs.Refusals.{Verdict, accepted, refused, refuseIf, refuseAt}
+use Rattle.rules.specs.Table.{Problem, between, strays, jobStrays, undoes, jobChecks, tableChecks, boundCheck}
+use Rattle.rules.specs.Premises.{InOrder}
 use Rattle.rules.specs.Plans.{starts, inPlan, spoils, interfere, ends, afterIf, finishes, holds, Valid}
 use Rattle.rules.specs.Verdicts.{late, overlap, clashes, unready, missing, planChecks}
 use Rattle.rules.proofs.Judged.{judged}

@@ -9,14 +9,14 @@ use Rattle.rules.specs.Plans.{Plan, In}
 use Rattle.rules.specs.Execution.{began, finished, Log, Logged, MayFinish, Complete, AsPlanned}
 
 -- job a, then job b, is one of the first n pairs of the bytes
-abbrev pub Listed : (bytes : List ℕ) (n a b : ℕ) → Type 0
-Listed bytes n a b = (i : ℕ) × (i < n) × (getD bytes (2 * i) 0 ≡ a) × (getD bytes (2 * i + 1) 0 ≡ b)
+abbrev pub InBytes : (bytes : List ℕ) (n a b : ℕ) → Type 0
+InBytes bytes n a b = (i : ℕ) × (i < n) × (getD bytes (2 * i) 0 ≡ a) × (getD bytes (2 * i + 1) 0 ≡ b)
 
 -- a job of the plan may start once, when the first job of each pair listed with it has finished
 pub record MayStartBy (P : Problem) (s : Plan) (bytes : List ℕ) (n : ℕ) (h : Log) (j : ℕ) : Type 0 where
   pub there : In P s j
   pub once : Logged (began j) h → ⊥
-  pub free : (a : ℕ) → Listed bytes n a j → Logged (finished a) h
+  pub free : (a : ℕ) → InBytes bytes n a j → Logged (finished a) h
 
 -- each event of the log was allowed when it came, by the n pairs of the bytes
 abbrev pub AllowedBy : Problem → Plan → (bytes : List ℕ) (n : ℕ) → Log → Type 0

@@ -7,15 +7,16 @@ use native.Mathlib.Omega.{arith}
 use lib.Dec.{T}
 use Rattle.facts.specs.Facts.{has}
 use Rattle.facts.proofs.Bools.{T?}
-use Rattle.rules.specs.Table.{Problem, InOrder, deletes}
+use Rattle.rules.specs.Table.{Problem}
+use Rattle.rules.specs.Premises.{InOrder, deletes}
 use Rattle.rules.specs.Plans.{Plan, In, finish, Over, holds, Valid}
 use Rattle.rules.specs.Estimates.{cost, condition, dearest, Estimates}
 use Rattle.rules.proofs.Time.{Quiet, Given, caused}
 use Rattle.rules.proofs.Clash.{ordered, differ}
 use Rattle.rules.proofs.Early.{plus-le, cost-le, condition-free, condition-is, Dear, dearest-at}
-use Rattle.distances.specs.Distances.{since, Spared}
+use Rattle.distances.specs.Distances.{since, SparedFacts}
 
-module _ (P : Problem) (ok : InOrder P) (bound : ℕ) (s : Plan) (v : Valid P bound s) (i : ℕ) (k : In P s i) (w : ℕ) (rest : Spared P i w) (est : ℕ → ℕ) (x : Estimates (since P w) est) where
+module _ (P : Problem) (ok : InOrder P) (bound : ℕ) (s : Plan) (v : Valid P bound s) (i : ℕ) (k : In P s i) (w : ℕ) (rest : SparedFacts P i w) (est : ℕ → ℕ) (x : Estimates (since P w) est) where
   -- job j, over before which i is, starts its estimate behind the finish of i
   abbrev Far : ℕ → Type 0
   Far j = finish P s i + P .gap + est j ≤ s j

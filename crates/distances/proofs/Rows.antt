@@ -14,19 +14,20 @@ use Rattle.facts.proofs.Bools.{T?}
 use Rattle.facts.proofs.Lists.{set-more}
 use Rattle.facts.proofs.Digits.{digit, digit-not}
 use Rattle.facts.proofs.Sets.{digit-has}
-use Rattle.rules.specs.Table.{Problem, InOrder}
+use Rattle.rules.specs.Table.{Problem}
+use Rattle.rules.specs.Premises.{InOrder}
 use Rattle.rules.specs.Plans.{finish}
 use Rattle.rules.specs.Estimates.{plus, cost, condition, Estimates}
 use Rattle.rules.proofs.Sums.{cond-yes, cond-no}
 use Rattle.rules.proofs.Early.{plus-le, cost-free, cost-cap, condition-is}
 use Rattle.entries.specs.Entries.{entry}
-use Rattle.estimates.specs.Rounds.{greatest, Dearest}
-use Rattle.lent.specs.Lent.{Apart}
-use Rattle.distances.specs.Distances.{since, Spared, Lacks, Behind}
+use Rattle.estimates.specs.Rounds.{greatest, CostOf}
+use Rattle.lent.specs.Lent.{Spacing}
+use Rattle.distances.specs.Distances.{since, SparedFacts, Complement, RowWithin}
 use Rattle.distances.proofs.Law.{start-distance, goal-distance}
 
 -- the facts below 64 that a word lacks are in its complement
-pub lacks : (w : ℕ) → w < 2 ^ 64 → Lacks w (2 ^ 64 - 1 - w)
+pub lacks : (w : ℕ) → w < 2 ^ 64 → Complement w (2 ^ 64 - 1 - w)
 lacks w f p l n =
     let ne : digit w p ≢ 1 = λ e. n (digit-has w p e) in
     digit-has (2 ^ 64 - 1 - w) p (omega (arith, digit-not 64 w p f l))
@@ -64,8 +65,8 @@ behind-next {dur} {est} {end} {n} {x} {row} l f e = record {
 }
 
 -- the row of job a, from the facts that it spares
-pub row-apart : (P : Problem) (a w : ℕ) (est : List ℕ) (end : ℕ) (row : List ℕ) → P .count ≤ 24 → Spared P a w → Estimates (since P w) (entry est) → Dearest (since P w) (entry est) (P .goals) end
-    → Behind (P .duration a) est end row → InOrder P → Apart P a (entry row)
+pub row-apart : (P : Problem) (a w : ℕ) (est : List ℕ) (end : ℕ) (row : List ℕ) → P .count ≤ 24 → SparedFacts P a w → Estimates (since P w) (entry est) → CostOf (since P w) (entry est) (P .goals) end
+    → RowWithin (P .duration a) est end row → InOrder P → Spacing P a (entry row)
 row-apart P a w est end row few r x d h ok = record {
   starts = λ bound Q v ia b ib o. omega (arith, start-distance P ok bound Q v a ia w r (entry est) x b ib o, h .jobs b (omega (arith, ib .below)));
   ends = λ bound Q v ia.

@@ -4,7 +4,8 @@ use mathlib.Core.List.{List}
 use Prim.Native.Nat.{ℕ, _+_, _≤_, _<_}
 use lib.Dec.{T}
 use Rattle.facts.specs.Facts.{has}
-use Rattle.rules.specs.Table.{Problem, deletes}
+use Rattle.rules.specs.Table.{Problem}
+use Rattle.rules.specs.Premises.{deletes}
 use Rattle.entries.specs.Entries.{entry}
 
 -- the problem from the finish of a job on: the word holds the facts that may be there; releases are times of day, so none is kept
@@ -23,14 +24,14 @@ since P w = record {
 }
 
 -- the word has every fact below 64 that job i does not delete
-abbrev pub Spared : Problem → (i word : ℕ) → Type 0
-Spared P i w = (p : ℕ) → p < 64 → (deletes P i p → ⊥) → T (has w p)
+abbrev pub SparedFacts : Problem → (i word : ℕ) → Type 0
+SparedFacts P i w = (p : ℕ) → p < 64 → (deletes P i p → ⊥) → T (has w p)
 
 -- r has every fact below 64 that w lacks
-abbrev pub Lacks : (w r : ℕ) → Type 0
-Lacks w r = (p : ℕ) → p < 64 → (T (has w p) → ⊥) → T (has r p)
+abbrev pub Complement : (w r : ℕ) → Type 0
+Complement w r = (p : ℕ) → p < 64 → (T (has w p) → ⊥) → T (has r p)
 
 -- the row is no more than a duration and each estimate, at 24 no more than that and the end
-pub record Behind (dur : ℕ) (est : List ℕ) (end : ℕ) (row : List ℕ) : Type 0 where
+pub record RowWithin (dur : ℕ) (est : List ℕ) (end : ℕ) (row : List ℕ) : Type 0 where
   pub jobs : (b : ℕ) → b < 24 → entry row b ≤ dur + entry est b
   pub last : entry row 24 ≤ dur + end

@@ -12,7 +12,8 @@ use Rattle.facts.specs.Facts.{has}
 use Rattle.facts.proofs.Bools.{T?, and-l, and-r, and-of, not-eqb, eqb-not}
 use Rattle.facts.proofs.Digits.{digit, digit-suc}
 use Rattle.facts.proofs.Sets.{has-digit, digit-has}
-use Rattle.rules.proofs.Sums.{sum, sum-le, sum-more, cond-yes, cond-no}
+use Rattle.rules.proofs.Sums.{sum-le, sum-more, cond-yes, cond-no}
+use Rattle.rules.specs.Sums.{sum}
 
 -- how many numbers below n pass the test
 abbrev pub tally : (ℕ → Bool) → ℕ → ℕ

@@ -8,16 +8,19 @@ use Prim.Native.Nat.{ℕ, _<_, _-_, _^_}
 use native.Mathlib.Omega.{arith}
 use lib.Bits.{bitAnd, bitOr}
 use lib.Dec.{T, not-T}
-use Rattle.facts.specs.Facts.{has, Covers}
+use Rattle.facts.specs.Facts.{has}
+use Rattle.facts.specs.Words.{Covers}
 use Rattle.facts.proofs.Bools.{and-l, and-r, and-of}
 use Rattle.facts.proofs.Sets.{has-zero, has-and, has-less}
-use Rattle.rules.specs.Table.{needs, adds, deletes}
-use Rattle.states.specs.State.{Search, More, task, MayJob}
+use Rattle.rules.specs.Table.{needs}
+use Rattle.rules.specs.Premises.{adds, deletes}
+use Rattle.states.specs.State.{Search, More, JobMay}
+use Rattle.rules.specs.Supports.{task}
 use Rattle.states.proofs.Keep.{left-back}
-use Rattle.cells.specs.View.{view, word, outs}
-use Rattle.cells.proofs.Changes.{bits-keep, bits-cases, bit-new, bit-cases}
+use Rattle.cells.specs.View.{view, wordAt, outs}
+use Rattle.jobs.proofs.Laws.{bits-keep, bits-cases, bit-new, bit-cases}
 use Rattle.lent.specs.Lent.{Lent, wantsOf, addersOf, killersOf, hitsOf, openingOf}
-use Rattle.distinct.specs.Rivals.{Rival, Givers, Pinned, WithPin, Behind, Fit, Banded, AllMust}
+use Rattle.distinct.specs.Rivals.{Rival, Givers, Pinned, WithPin, RivalWord, Wanting, Banded, AllMust}
 use Rattle.distinct.specs.declared.Band.{Band}
 
 -- ── behind which jobs c wants another support ──
@@ -28,14 +31,14 @@ pin-none = record { of = λ all b k h. inl h }
 pub pin-more : {L : List ℕ} (w : ℕ) {q kills : ℕ} → q < 64 → Covers kills (addersOf L q) → WithPin L w q kills (bitOr w (killersOf L q))
 pin-more {L} w {q} l c = record { of = λ all b k h. ⊎-elim inl (λ x. inr (record { q = q; short = l; wanted = k; lost = x; back = c })) (bits-cases w (killersOf L q) b h) }
 
-pub behind-all : {L : List ℕ} {c kills : ℕ} (w hits : ℕ) → ((b : ℕ) → T (has w b) → T (has kills b) ⊎ Pinned L kills (wantsOf L c) b) → ((b : ℕ) → T (has hits b) → T (has (hitsOf L c) b)) → Behind L c kills (bitAnd w hits)
+pub behind-all : {L : List ℕ} {c kills : ℕ} (w hits : ℕ) → ((b : ℕ) → T (has w b) → T (has kills b) ⊎ Pinned L kills (wantsOf L c) b) → ((b : ℕ) → T (has hits b) → T (has (hitsOf L c) b)) → RivalWord L c kills (bitAnd w hits)
 behind-all w hits f g = record {
   meet = λ b h. g b (and-r (has w b) _ (subst T (has-and w hits b) h));
   parted = λ b h. f b (and-l (has w b) _ (subst T (has-and w hits b) h));
 }
 
 module _ {L : List ℕ} {P : Search} (e : Lent L P) (p : ℕ) (lp : p < 64) (c : ℕ) (lc : c < 24) where
-  pub behind-rival : {r : ℕ} → Behind L c (killersOf L p) r → (b : ℕ) → T (has r b) → Rival (P .problem) p b c
+  pub behind-rival : {r : ℕ} → RivalWord L c (killersOf L p) r → (b : ℕ) → T (has r b) → Rival (P .problem) p b c
   behind-rival x b h = record { meet = e .listed .clash c b lc (x .meet b h); parted = ⊎-elim (λ k. inl (kills b k)) (λ k. inr (k .q, wants (k .q) (k .wanted), e .listed .killers (k .q) (k .short) .of b (k .lost) .1 .1, back k)) (x .parted b h) }
     where
       kills : (d : ℕ) → T (has (killersOf L p) d) → deletes (P .problem) d p
@@ -55,7 +58,7 @@ band-none = record {
   common = λ j c i h. absurd (has-zero c h);
 }
 
-pub band-join : {L s : List ℕ} {P : Search} → Lent L P → (p : ℕ) → p < 64 → (b : Band) (j w : ℕ) → j < 24 → Fit s L p (b .common) j → Behind L j (killersOf L p) w → Covers w (b .members)
+pub band-join : {L s : List ℕ} {P : Search} → Lent L P → (p : ℕ) → p < 64 → (b : Band) (j w : ℕ) → j < 24 → Wanting s L p (b .common) j → RivalWord L j (killersOf L p) w → Covers w (b .members)
     → Banded P s p b → Banded P s p (record { members = bitOr (b .members) (2 ^ j); common = bitAnd (b .common) w })
 band-join {L} {s} {P} e p lp b j w l f x k y = record {
   rivals = record {
@@ -80,12 +83,12 @@ band-join {L} {s} {P} e p lp b j w l f x k y = record {
 
 -- ── who may support ──
 
-module _ {L : List ℕ} (s : List ℕ) {P : Search} (e : Lent L P) (p : ℕ) (l : p < 64) (a : addersOf L p < 2 ^ 32) (o : word s outs < 2 ^ 32) where
+module _ {L : List ℕ} (s : List ℕ) {P : Search} (e : Lent L P) (p : ℕ) (l : p < 64) (a : addersOf L p < 2 ^ 32) (o : wordAt s outs < 2 ^ 32) where
   abbrev free : ℕ
-  free = bitAnd (addersOf L p) (2 ^ 32 - 1 - word s outs)
+  free = bitAnd (addersOf L p) (2 ^ 32 - 1 - wordAt s outs)
 
-  free-job : (d c : ℕ) → MayJob P (view s) p (task c) d → T (has free d)
-  free-job d c m = subst T (sym (has-less 32 (addersOf L p) (word s outs) d a o)) (and-of (has (addersOf L p) d) _ (e .listed .adders p l .at d (omega (arith, m .below, e .listed .few)) (m .below, m .gives)) (not-T (has (word s outs) d) (m .free)))
+  free-job : (d c : ℕ) → JobMay P (view s) p (task c) d → T (has free d)
+  free-job d c m = subst T (sym (has-less 32 (addersOf L p) (wordAt s outs) d a o)) (and-of (has (addersOf L p) d) _ (e .listed .adders p l .at d (omega (arith, m .below, e .listed .few)) (m .below, m .gives)) (not-T (has (wordAt s outs) d) (m .free)))
 
   pub givers-open : Givers P (view s) p (bitOr free 16777216)
   givers-open = record { jobs = λ d c m. bits-keep free 16777216 d (free-job d c m); opening = λ c m. bit-new free 24 }

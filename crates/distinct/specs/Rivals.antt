@@ -5,10 +5,13 @@ use mathlib.Core.Logic.{_⊎_, _≢_}
 use mathlib.Core.List.{List}
 use Prim.Native.Nat.{ℕ, _<_}
 use lib.Dec.{T}
-use Rattle.facts.specs.Facts.{has, Covers}
-use Rattle.rules.specs.Table.{Problem, needs, adds, deletes}
+use Rattle.facts.specs.Facts.{has}
+use Rattle.facts.specs.Words.{Covers}
+use Rattle.rules.specs.Table.{Problem, needs}
+use Rattle.rules.specs.Premises.{adds, deletes}
 use Rattle.rules.specs.Plans.{interfere}
-use Rattle.states.specs.State.{Search, St, Must, task, MayStart, MayJob}
+use Rattle.states.specs.State.{Search, St, Must, StartMay, JobMay}
+use Rattle.rules.specs.Supports.{task}
 use Rattle.cells.specs.View.{view}
 use Rattle.lent.specs.Lent.{wantsOf, addersOf, killersOf, hitsOf}
 use Rattle.distinct.specs.declared.Band.{Band}
@@ -30,8 +33,8 @@ pub record Rivals (P : Search) (s : St) (p m : ℕ) : Type 0 where
 
 -- every job that may support p is in the word, and 24 is where Start may
 pub record Givers (P : Search) (s : St) (p w : ℕ) : Type 0 where
-  pub jobs : (a c : ℕ) → MayJob P s p (task c) a → T (has w a)
-  pub opening : (c : ℕ) → MayStart P s p (task c) → T (has w 24)
+  pub jobs : (a c : ℕ) → JobMay P s p (task c) a → T (has w a)
+  pub opening : (c : ℕ) → StartMay P s p (task c) → T (has w 24)
 
 -- ── what the contracts cite ──
 
@@ -48,12 +51,12 @@ pub record WithPin (L : List ℕ) (w q kills r : ℕ) : Type 0 where
   pub of : (all b : ℕ) → T (has all q) → T (has r b) → T (has w b) ⊎ Pinned L kills all b
 
 -- every job of r interferes with c, and is one of kills or pinned by a condition of c
-pub record Behind (L : List ℕ) (c kills r : ℕ) : Type 0 where
+pub record RivalWord (L : List ℕ) (c kills r : ℕ) : Type 0 where
   pub meet : (b : ℕ) → T (has r b) → T (has (hitsOf L c) b)
   pub parted : (b : ℕ) → T (has r b) → T (has kills b) ⊎ Pinned L kills (wantsOf L c) b
 
 -- job j is of `common`, inside, and wants p
-pub record Fit (s L : List ℕ) (p common j : ℕ) : Type 0 where
+pub record Wanting (s L : List ℕ) (p common j : ℕ) : Type 0 where
   pub common? : T (has common j)
   pub inside : T (view s .inside j)
   pub wants : T (has (wantsOf L j) p)

@@ -8,7 +8,7 @@ ghost use Rattle.facts.specs.Facts.{has};
 ghost use Rattle.states.specs.State.{Search};
 ghost use Rattle.cells.specs.View.{view, Prunes};
 ghost use Rattle.lent.specs.Lent.{Lent};
-ghost use Rattle.distinct.specs.Rivals.{WithPin, Behind, Rivals, Givers, Fit, Banded, AllMust};
+ghost use Rattle.distinct.specs.Rivals.{WithPin, RivalWord, Rivals, Givers, Wanting, Banded, AllMust};
 use cells::State;
 use lent::Tables;
 
@@ -32,7 +32,7 @@ fn with_pin(t: &Tables, w: u32, q: usize, kills: u32) -> u32
     if 64 <= q {
         return w;
     }
-    if !cells::within(lent::adders(t, q), kills) {
+    if !jobs::within(lent::adders(t, q), kills) {
         return w;
     }
     w | lent::killers(t, q)
@@ -41,7 +41,7 @@ fn with_pin(t: &Tables, w: u32, q: usize, kills: u32) -> u32
 // The jobs behind which c wants another support for the fact that the jobs of kills delete.
 fn parted(t: &Tables, c: usize, kills: u32) -> u32
     requires { ⌜ c < 24 ⌝ }
-    ensures { λ r. ⌜ Behind (now (t .entry)) c kills r ⌝ }
+    ensures { λ r. ⌜ RivalWord (now (t .entry)) c kills r ⌝ }
 {
     let mut w = kills;
     let mut v = lent::wants(t, c);
@@ -55,9 +55,9 @@ fn parted(t: &Tables, c: usize, kills: u32) -> u32
 // Job j is inside, wants the fact p and could come to the members.
 fn fits(s: &State, t: &Tables, p: usize, common: u32, j: usize) -> bool
     requires { ⌜ (p < 64) × (j < 24) ⌝ }
-    ensures { λ r. ⌜ (r ≡ true → Fit (now (s .entry)) (now (t .entry)) p common j) ⌝ }
+    ensures { λ r. ⌜ (r ≡ true → Wanting (now (s .entry)) (now (t .entry)) p common j) ⌝ }
 {
-    if !cells::has(common, j) {
+    if !jobs::has(common, j) {
         return false;
     }
     if !cells::inside(s, j) {
@@ -78,11 +78,11 @@ fn join(s: &State, t: &Tables, p: usize, b: Band, j: usize) -> Band
         return b;
     }
     let w = parted(t, j, lent::killers(t, p));
-    if !cells::within(b.members, w) {
+    if !jobs::within(b.members, w) {
         return b;
     }
     Band {
-        members: cells::with(b.members, j),
+        members: jobs::with(b.members, j),
         common: b.common & w,
     }
 }
@@ -99,8 +99,8 @@ fn gather(s: &State, t: &Tables, p: usize, i: usize) -> u32
     let mut b = join(s, t, p, none, i);
     let mut v = b.common & cells::insides(s);
     while v != 0 {
-        b = join(s, t, p, b, cells::lowest(v));
-        v = cells::rest(v);
+        b = join(s, t, p, b, jobs::lowest(v));
+        v = jobs::rest(v);
     }
     b.members
 }
@@ -132,8 +132,8 @@ fn enter_all(s: &mut State, w: u32)
 {
     let mut v = w;
     while v != 0 {
-        enter(s, cells::lowest(v));
-        v = cells::rest(v);
+        enter(s, jobs::lowest(v));
+        v = jobs::rest(v);
     }
 }
 
@@ -161,8 +161,8 @@ fn takers(s: &State, t: &Tables, p: usize) -> u32
     let mut w: u32 = 0;
     let mut v = cells::insides(s);
     while v != 0 {
-        w = with_taker(t, w, p, cells::lowest(v));
-        v = cells::rest(v);
+        w = with_taker(t, w, p, jobs::lowest(v));
+        v = jobs::rest(v);
     }
     w
 }
@@ -174,7 +174,7 @@ fn with_taker(t: &Tables, w: u32, p: usize, j: usize) -> u32
     if 24 <= j {
         return w;
     }
-    cells::with_if(w, j, facts::has(lent::wants(t, j), p))
+    jobs::with_if(w, j, facts::has(lent::wants(t, j), p))
 }
 
 // The same for every job that wants the fact p, where there are as many as supports.
@@ -190,8 +190,8 @@ fn claims(s: &mut State, t: &Tables, p: usize)
     }
     let mut v = w;
     while v != 0 {
-        claim(s, t, p, cells::lowest(v));
-        v = cells::rest(v);
+        claim(s, t, p, jobs::lowest(v));
+        v = jobs::rest(v);
     }
 }
 
@@ -201,10 +201,10 @@ fn wanted_twice(s: &State, t: &Tables) -> u64 {
     let mut twice: u64 = 0;
     let mut v = cells::insides(s);
     while v != 0 {
-        let c = wants_of(t, cells::lowest(v));
+        let c = wants_of(t, jobs::lowest(v));
         twice = twice | (once & c);
         once = once | c;
-        v = cells::rest(v);
+        v = jobs::rest(v);
     }
     twice
 }

@@ -2,7 +2,7 @@
 ghost use mathlib.Core.Path.{_≡_};
 ghost use Prim.Native.Nat.{_≤_, _<_, max};
 ghost use lib.ListN.{length};
-ghost use Rattle.facts.specs.Facts.{Decides};
+ghost use Rattle.facts.specs.Words.{Decides};
 ghost use Rattle.tables.specs.Tables.{filled};
 ghost use Rattle.entries.specs.Entries.{entry, Same};
 

@@ -12,10 +12,11 @@ use Rattle.facts.specs.Facts.{has}
 use Rattle.facts.proofs.Bools.{T?}
 use Rattle.rules.specs.Table.{Problem}
 use Rattle.rules.specs.Estimates.{plus, cheapest, cost, condition, dearest, Estimates}
-use Rattle.rules.proofs.Sums.{sum, sum-falls, cond-yes, cond-no}
+use Rattle.rules.proofs.Sums.{sum-falls, cond-yes, cond-no}
+use Rattle.rules.specs.Sums.{sum}
 use Rattle.rules.proofs.Early.{cost-free, cost-cap, dearest-mono, dearest-cap}
 use Rattle.entries.specs.Entries.{entry, Same}
-use Rattle.estimates.specs.Rounds.{greatest, Costs, Rounds}
+use Rattle.estimates.specs.Rounds.{greatest, Costs, NextRound}
 
 -- ── a job or a fact more, as a loop's counter says it ──
 
@@ -57,13 +58,13 @@ module _ (P : Problem) (gap : P .gap ≡ 0) (release : (i : ℕ) → P .release 
   pub high-first : (est : List ℕ) → ((i : ℕ) → i < P .count → entry est i ≡ 65535) → High est
   high-first est h i l = omega (arith, h i l, dearest-cap P (entry est) i, release i)
 
-  pub high-next : (est next : List ℕ) → High est → Rounds P (entry est) next (P .count) → High next
+  pub high-next : (est next : List ℕ) → High est → NextRound P (entry est) next (P .count) → High next
   high-next est next h r i l = rw (r i l) (dearest-mono P (entry next) (entry est) i 64 (λ j m. rw (r j m) (h j m)))
 
   -- a round that changes an estimate lowers their sum
-  pub sum-less : (est next : List ℕ) → High est → Rounds P (entry est) next (P .count) → (Same est next (P .count) → ⊥) → sum (entry next) (P .count) < sum (entry est) (P .count)
+  pub sum-less : (est next : List ℕ) → High est → NextRound P (entry est) next (P .count) → (Same est next (P .count) → ⊥) → sum (entry next) (P .count) < sum (entry est) (P .count)
   sum-less est next h r n = ⊎-elim (λ e. absurd (n (λ i l. sym (e i l)))) (λ m. m) (sum-falls (entry next) (entry est) (P .count) (λ j l. rw (r j l) (h j l)))
 
   -- and one that changes none has found the solution
-  pub solved : (est next : List ℕ) → Rounds P (entry est) next (P .count) → Same est next (P .count) → Estimates P (entry est)
+  pub solved : (est next : List ℕ) → NextRound P (entry est) next (P .count) → Same est next (P .count) → Estimates P (entry est)
   solved est next r s i l = s i l ∙ r i l

@@ -5,7 +5,7 @@ use mathlib.Core.List.{List}
 use Prim.Native.Nat.{ℕ}
 use lib.Dec.{ltb}
 use lib.ListN.{length}
-use Rattle.rules.specs.Refusals.{Verdict, accepted}
+use Rattle.refusals.specs.Refusals.{Verdict, accepted}
 use Rattle.rules.specs.Estimates.{Estimates}
 use Rattle.tables.specs.Tables.{problem, callChecks, Fills}
 use Rattle.tables.specs.declared.Loaded.{Loaded}

@@ -19,11 +19,11 @@ abbrev pub Costs : Problem → (est : ℕ → ℕ) → (costs : List ℕ) → �
 Costs P est costs k = (p : ℕ) → p < k → entry costs p ≡ cost P est p
 
 -- r is the greatest of the costs of the facts of the word
-pub record Dearest (P : Problem) (est : ℕ → ℕ) (w r : ℕ) : Type 0 where
+pub record CostOf (P : Problem) (est : ℕ → ℕ) (w r : ℕ) : Type 0 where
   pub costs : List ℕ
   pub are : Costs P est costs 64
   pub is : r ≡ greatest w costs 64
 
 -- what a round makes of the estimates of the jobs below k
-abbrev pub Rounds : Problem → (est : ℕ → ℕ) → (next : List ℕ) → ℕ → Type 0
-Rounds P est next k = (i : ℕ) → i < k → entry next i ≡ dearest P est i 64
+abbrev pub NextRound : Problem → (est : ℕ → ℕ) → (next : List ℕ) → ℕ → Type 0
+NextRound P est next k = (i : ℕ) → i < k → entry next i ≡ dearest P est i 64

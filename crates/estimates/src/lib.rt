@@ -6,7 +6,7 @@ ghost use Rattle.facts.specs.Facts.{has};
 ghost use Rattle.rules.specs.Estimates.{plus, cost, Estimates};
 ghost use Rattle.tables.specs.Tables.{problem};
 ghost use Rattle.entries.specs.Entries.{entry};
-ghost use Rattle.estimates.specs.Rounds.{greatest, Costs, Dearest, Rounds};
+ghost use Rattle.estimates.specs.Rounds.{greatest, Costs, CostOf, NextRound};
 ghost use Rattle.estimates.specs.Earliest.{Earliest};
 use tables::Answer;
 use tables::Ask;
@@ -99,7 +99,7 @@ fn greatest(conditions: u64, costs: [u16; 64]) -> u16
 // What a word of facts costs: the greatest of their costs.
 pub fn dearest(l: Loaded, q: Ask, est: [u16; 24], w: u64) -> u16
     requires { ⌜ q .jobs ≤ 24 ⌝ }
-    ensures { λ r. ⌜ Dearest (problem l q) (entry est) w r ⌝ }
+    ensures { λ r. ⌜ CostOf (problem l q) (entry est) w r ⌝ }
 {
     greatest(w, costs(l, q, est))
 }
@@ -107,7 +107,7 @@ pub fn dearest(l: Loaded, q: Ask, est: [u16; 24], w: u64) -> u16
 // Each job's estimate from the present ones.
 fn round(l: Loaded, q: Ask, est: [u16; 24]) -> [u16; 24]
     requires { ⌜ q .jobs ≤ 24 ⌝ }
-    ensures { λ r. ⌜ Rounds (problem l q) (entry est) r (q .jobs) ⌝ }
+    ensures { λ r. ⌜ NextRound (problem l q) (entry est) r (q .jobs) ⌝ }
 {
     let costs = costs(l, q, est);
     let n = q.jobs;

@@ -13,16 +13,17 @@ use Rattle.facts.proofs.Bools.{T?, certain}
 use Rattle.facts.proofs.Sets.{has-zero}
 use Rattle.facts.proofs.Walks.{Done, done-all, Over, over-here}
 use Rattle.rules.specs.Supports.{start, nobody, by}
-use Rattle.states.specs.State.{Search, Dead, late, done, useless, serves, there, SafeJob, MayStart, OpenPair}
+use Rattle.states.specs.State.{Search, Dead, surelyLate, surelyDone, useless, serves, there, SafeJob, StartMay, OpenPair}
 use Rattle.states.proofs.Rules as rules
-use Rattle.cells.specs.View.{view, word, sures}
-use Rattle.lent.specs.Lent.{Cols, Deletes, Lent, wantsOf, addersOf, killersOf, hitsOf}
-use Rattle.lent.specs.Consumers.{who, whoOf, SomeSafe, SafeFor, Ordered}
+use Rattle.cells.specs.View.{view, wordAt, sures}
+use Rattle.lent.specs.Lent.{Cols, Kills, Lent, wantsOf, addersOf, killersOf, hitsOf}
+use Rattle.lent.specs.Consumers.{whoAt, whoOf, SomeSafe, SafeFor, Ordered}
 use Rattle.lent.proofs.Consumers.{wants-in, wants-of}
-use Rattle.supports.specs.Supports.{Candidate, Danger, Unsettled, NoMay, Sight, Lack}
+use Rattle.supports.specs.Supports.{Candidate, Danger, Unsettled, NoMay, Sight}
+use Rattle.jobs.specs.Jobs.{Lack}
 use Rattle.flaws.specs.declared.Choice.{Choice}
 use Rattle.flaws.specs.declared.Scene.{Scene}
-use Rattle.flaws.specs.Flaw.{fineChoice, deadChoice, jobChoice, pairChoice, parted, FreeJob, FreePair, Picks, Alike, Eased, Sooner, Urgent, Pending, Seen, NoJob, OneLost, AllSafe, Clash}
+use Rattle.flaws.specs.Flaw.{fineChoice, deadChoice, jobChoice, pairChoice, threatPair, FreeJob, FreePair, Picks, Alike, Eased, Sooner, Urgent, Pending, SceneOf, NoCandidate, OneLost, AllSafe, Interfering}
 
 -- ── choices ──
 
@@ -80,40 +81,40 @@ for-at : (x : Bool) (s : List ℕ) (a b : ℕ) → (T (serves (view s) a (whoOf 
 for-at true s a b h k = (tt, record { unsure = h; possible = k })
 for-at false s a b h k = absurd (h tt)
 
-with-at : (x : Bool) (s : List ℕ) (b d : ℕ) → (T (done (view s) (whoOf x b) d) → ⊥) → (T (late (view s) (whoOf x b) d) → ⊥) → T x × OpenPair (view s) b d
+with-at : (x : Bool) (s : List ℕ) (b d : ℕ) → (T (surelyDone (view s) (whoOf x b) d) → ⊥) → (T (surelyLate (view s) (whoOf x b) d) → ⊥) → T x × OpenPair (view s) b d
 with-at true s b d h k = (tt, record { unsure = h; possible = k })
 with-at false s b d h k = absurd (k tt)
 
 -- a job and the consumer, the consumer and a job: then the consumer is not End
-pub pair-for : (s : List ℕ) (a b : ℕ) → a < 24 → (T (serves (view s) a (who b)) → ⊥) → (T (useless (view s) a (who b)) → ⊥) → FreePair s a b
+pub pair-for : (s : List ℕ) (a b : ℕ) → a < 24 → (T (serves (view s) a (whoAt b)) → ⊥) → (T (useless (view s) a (whoAt b)) → ⊥) → FreePair s a b
 pair-for s a b l h k = let z = for-at (ltb b 24) s a b h k in record { first = l; second = ltb→lt b 24 (z .0); free = z .1 }
 
-pair-with : (s : List ℕ) (b d : ℕ) → d < 24 → (T (done (view s) (who b) d) → ⊥) → (T (late (view s) (who b) d) → ⊥) → FreePair s b d
+pair-with : (s : List ℕ) (b d : ℕ) → d < 24 → (T (surelyDone (view s) (whoAt b) d) → ⊥) → (T (surelyLate (view s) (whoAt b) d) → ⊥) → FreePair s b d
 pair-with s b d l h k = let z = with-at (ltb b 24) s b d h k in record { first = ltb→lt b 24 (z .0); second = l; free = z .1 }
 
 -- ── what a candidate wants ──
 
 module _ {P : Search} (s : List ℕ) {p : ℕ} (b : ℕ) {R : ℕ} (c : Pending P s p b R) where
-  module _ (a : ℕ) (m : Candidate P s p b a) {d : ℕ} (l : Lack R (word s (sures a)) d) where
-    pub sup-safe : T (view s .inside a) → T (serves (view s) a (who b)) → d ≡ 24 → SafeJob P (view s) p (who b) a
+  module _ (a : ℕ) (m : Candidate P s p b a) {d : ℕ} (l : Lack R (wordAt s (sures a)) d) where
+    pub sup-safe : T (view s .inside a) → T (serves (view s) a (whoAt b)) → d ≡ 24 → SafeJob P (view s) p (whoAt b) a
     sup-safe i h e = record {
       gives = m .gives;
       inside = i;
       before = h;
-      clear = λ d k. ⊎-elim inr (λ n. inl (let j : d < 24 = omega (arith, c .few, k .below) in l .none e d j (c .unsettled .at d j (record { killer = k; free = n })))) (T? (done (view s) (who b) d));
+      clear = λ d k. ⊎-elim inr (λ n. inl (let j : d < 24 = omega (arith, c .few, k .below) in l .first d (omega arith) (c .unsettled .at d j (record { killer = k; free = n })))) (T? (surelyDone (view s) (whoAt b) d));
     }
 
-    pub sup-part : {r : Choice} (never : Bool) → never ≡ view s .never d a → r ≡ parted never a b d → a < 24 → d < 24 → Picks s (SafeJob P (view s) p (who b) a) ⊥ r
+    pub sup-part : {r : Choice} (never : Bool) → never ≡ view s .never d a → r ≡ threatPair never a b d → a < 24 → d < 24 → Picks s (SafeJob P (view s) p (whoAt b) a) ⊥ r
     sup-part true e z la h = pick-pair z (let u = c .unsettled .of d (l .here h) .1 in pair-with s b d h (u .free) (m .clear d (u .killer) (subst T e tt)))
     sup-part false e z la h = pick-pair z (record { first = h; second = la; free = record { unsure = l .lacks h; possible = λ x. subst T (sym e) x } })
 
-  module _ (m : MayStart P (view s) p (who b)) {d : ℕ} (l : Lack R 0 d) where
+  module _ (m : StartMay P (view s) p (whoAt b)) {d : ℕ} (l : Lack R 0 d) where
     pub start-safe : d ≡ 24 → SomeSafe P s p b
     start-safe e = (
       start,
       record {
         given = m .given;
-        clear = λ d k. ⊎-elim (λ x. x) (λ n. absurd (let j : d < 24 = omega (arith, c .few, k .below) in has-zero d (l .none e d j (c .unsettled .at d j (record { killer = k; free = n }))))) (T? (done (view s) (who b) d));
+        clear = λ d k. ⊎-elim (λ x. x) (λ n. absurd (let j : d < 24 = omega (arith, c .few, k .below) in has-zero d (l .first d (omega arith) (c .unsettled .at d j (record { killer = k; free = n }))))) (T? (surelyDone (view s) (whoAt b) d));
       },
     )
 
@@ -124,21 +125,21 @@ module _ {P : Search} (s : List ℕ) {p : ℕ} (b : ℕ) {R : ℕ} (c : Pending 
 
 -- the words of one fact, as they are looked up
 pub seen : {L : List ℕ} {P : Search} {s : List ℕ} {p b A K G C R : ℕ} → Lent L P → p < 64 → A ≡ addersOf L p → K ≡ killersOf L p
-    → (Cols (Deletes (P .problem) p) K 24 → Cols (Danger P s p b) G 24) → (Sight P s p b A G → Cols (Candidate P s p b) C 24) → (Cols (Deletes (P .problem) p) K 24 → Cols (Unsettled P s p b) R 24)
-    → Cols (Danger P s p b) G 24 × Seen P s p (record { by = b; cands = C; rest = R })
+    → (Cols (Kills (P .problem) p) K 24 → Cols (Danger P s p b) G 24) → (Sight P s p b A G → Cols (Candidate P s p b) C 24) → (Cols (Kills (P .problem) p) K 24 → Cols (Unsettled P s p b) R 24)
+    → Cols (Danger P s p b) G 24 × SceneOf P s p (record { by = b; cands = C; rest = R })
 seen {P = P} {p = p} e l a k g f r =
     let t = e .listed in
-    let z = subst (λ (x : ℕ). Cols (Deletes (P .problem) p) x 24) (sym k) (t .killers p l) in
+    let z = subst (λ (x : ℕ). Cols (Kills (P .problem) p) x 24) (sym k) (t .killers p l) in
     (g z, record { cands = f (record { few = t .few; gives = rw a (t .adders p l); dangers = g z }); left = record { few = t .few; unsettled = r z } })
 
 -- neither Start nor a job is a candidate
-pub no-may : {P : Search} (s : List ℕ) {p : ℕ} (b : ℕ) → (MayStart P (view s) p (who b) → ⊥) → NoJob P s p b → NoMay P s p b
+pub no-may : {P : Search} (s : List ℕ) {p : ℕ} (b : ℕ) → (StartMay P (view s) p (whoAt b) → ⊥) → NoCandidate P s p b → NoMay P s p b
 no-may s b n f start m = n m
 no-may s b n f nobody m = m
 no-may s b n f (by a) m = f a m
 
 -- where the word of the candidates is empty there is none
-pub no-job : {P : Search} {s : List ℕ} {p : ℕ} {x : Scene} {w : ℕ} → Seen P s p x → Done (λ i. ⊥) (x .cands) w → w ≡ 0 → NoJob P s p (x .by)
+pub no-job : {P : Search} {s : List ℕ} {p : ℕ} {x : Scene} {w : ℕ} → SceneOf P s p x → Done (λ i. ⊥) (x .cands) w → w ≡ 0 → NoCandidate P s p (x .by)
 no-job k f e a m = done-all f e a (k .cands .at a (omega (arith, k .left .few, m .below)) m)
 
 -- ── walks ──
@@ -149,14 +150,14 @@ done-own f e i h = done-all f e i h h
 
 -- ── a consumer ──
 
-pub consumer-safe : {L : List ℕ} {P : Search} (s : List ℕ) (b : ℕ) {c : Choice} → Lent L P → b ≤ 24 → T (there (view s) (who b))
+pub consumer-safe : {L : List ℕ} {P : Search} (s : List ℕ) (b : ℕ) {c : Choice} → Lent L P → b ≤ 24 → T (there (view s) (whoAt b))
     → Picks s (AllSafe P s b (wantsOf L b)) (OneLost P s b (wantsOf L b)) c → Picks s (SafeFor P s b) (Dead P (view s)) c
-consumer-safe {P = P} s b e l t = pick-map (λ f i p w. f p (wants-in e p b l w)) (λ z. rules.none-dead P (e .listed .wf) (view s) (who b) (z .0) t (wants-of e (z .0) b l (z .1)) (z .2))
+consumer-safe {P = P} s b e l t = pick-map (λ f i p w. f p (wants-in e p b l w)) (λ z. rules.none-dead P (e .listed .wf) (view s) (whoAt b) (z .0) t (wants-of e (z .0) b l (z .1)) (z .2))
 
 -- ── two jobs that interfere ──
 
 -- a job and the next of those that interfere with it
-pub clash-next : {L : List ℕ} {P : Search} {a w i : ℕ} → Lent L P → a < 24 → Over 32 (hitsOf L a) w → (w ≡ 0 → ⊥) → i ≡ least (has w) 32 → Clash P a i
+pub clash-next : {L : List ℕ} {P : Search} {a w i : ℕ} → Lent L P → a < 24 → Over 32 (hitsOf L a) w → (w ≡ 0 → ⊥) → i ≡ least (has w) 32 → Interfering P a i
 clash-next {a = a} {i = i} e l f n k = record { wf = e .listed .wf; meet = e .listed .clash a i l (over-here f n k) }
 
 -- both are inside and neither is surely over before the other

@@ -7,7 +7,7 @@ use mathlib.Core.List.{List}
 use Prim.Native.Nat.{ℕ, _≤_, _<_}
 use lib.Dec.{T}
 use Rattle.facts.specs.Facts.{has}
-use Rattle.rules.specs.Table.{InOrder}
+use Rattle.rules.specs.Premises.{InOrder}
 use Rattle.rules.specs.Plans.{interfere}
 use Rattle.states.specs.State.{Search, OpenJob, OpenPair}
 use Rattle.cells.specs.View.{view}
@@ -19,28 +19,33 @@ use Rattle.flaws.specs.declared.Scene.{Scene}
 
 -- ── choices ──
 
+-- nothing is left to choose
 abbrev pub fineChoice : Choice
 fineChoice = record { kind = 0; x = 0; y = 0; rank = 0 }
 
+-- no plan is left
 abbrev pub deadChoice : Choice
 deadChoice = record { kind = 1; x = 0; y = 0; rank = 0 }
 
+-- job x is to be taken in or left out
 abbrev pub jobChoice : ℕ → Choice
 jobChoice x = record { kind = 2; x = x; y = 0; rank = 0 }
 
+-- whether x is over before y is to be settled
 abbrev pub pairChoice : ℕ → ℕ → Choice
 pairChoice x y = record { kind = 3; x = x; y = y; rank = 0 }
 
 -- which pair is to be ordered where d deletes the fact of the candidate a for b: b and d where d surely is not over before a, else d and a
-abbrev pub parted : (never : Bool) → (a b d : ℕ) → Choice
-parted true a b d = pairChoice b d
-parted false a b d = pairChoice d a
+abbrev pub threatPair : (never : Bool) → (a b d : ℕ) → Choice
+threatPair true a b d = pairChoice b d
+threatPair false a b d = pairChoice d a
 
 -- job x is neither in nor out; it is open whether x is over before y
 pub record FreeJob (s : List ℕ) (x : ℕ) : Type 0 where
   pub below : x < 24
   pub free : OpenJob (view s) x
 
+-- it is open whether x is over before y
 pub record FreePair (s : List ℕ) (x y : ℕ) : Type 0 where
   pub first : x < 24
   pub second : y < 24
@@ -80,13 +85,13 @@ pub record Pending (P : Search) (s : List ℕ) (p b rest : ℕ) : Type 0 where
   pub unsettled : Cols (Unsettled P s p b) rest 24
 
 -- the words of its candidates and of those deleters
-pub record Seen (P : Search) (s : List ℕ) (p : ℕ) (x : Scene) : Type 0 where
+pub record SceneOf (P : Search) (s : List ℕ) (p : ℕ) (x : Scene) : Type 0 where
   pub cands : Cols (Candidate P s p (x .by)) (x .cands) 24
   pub left : Pending P s p (x .by) (x .rest)
 
 -- no job is a candidate
-abbrev pub NoJob : Search → List ℕ → (p b : ℕ) → Type 0
-NoJob P s p b = (a : ℕ) → Candidate P s p b a → ⊥
+abbrev pub NoCandidate : Search → List ℕ → (p b : ℕ) → Type 0
+NoCandidate P s p b = (a : ℕ) → Candidate P s p b a → ⊥
 
 -- ── all facts of a consumer, all consumers ──
 
@@ -94,21 +99,25 @@ NoJob P s p b = (a : ℕ) → Candidate P s p b a → ⊥
 abbrev pub AllSafe : Search → List ℕ → (b w : ℕ) → Type 0
 AllSafe P s b w = (p : ℕ) → T (has w p) → SomeSafe P s p b
 
+-- some fact of the word has no candidate for b
 abbrev pub OneLost : Search → List ℕ → (b w : ℕ) → Type 0
 OneLost P s b w = (p : ℕ) × T (has w p) × NoMay P s p b
 
+-- every consumer below n is safe
 abbrev pub SafeBelow : Search → List ℕ → ℕ → Type 0
 SafeBelow P s n = (b : ℕ) → b < n → SafeFor P s b
 
 -- ── jobs that interfere ──
 
-pub record Clash (P : Search) (a b : ℕ) : Type 0 where
+-- a and b are jobs in order that interfere
+pub record Interfering (P : Search) (a b : ℕ) : Type 0 where
   pub wf : InOrder (P .problem)
   pub meet : T (interfere (P .problem) a b)
 
 -- job a is in order with all that interfere with it; so is every job
-abbrev pub RowApart : (s L : List ℕ) (a : ℕ) → Type 0
-RowApart s L a = a < 24 → (b : ℕ) → b < 24 → T (has (hitsOf L a) b) → Ordered s a b
+abbrev pub RowOrdered : (s L : List ℕ) (a : ℕ) → Type 0
+RowOrdered s L a = a < 24 → (b : ℕ) → b < 24 → T (has (hitsOf L a) b) → Ordered s a b
 
-abbrev pub Apart : (s L : List ℕ) → Type 0
-Apart s L = (a b : ℕ) → a < 24 → b < 24 → T (has (hitsOf L a) b) → Ordered s a b
+-- every two jobs that interfere are in order
+abbrev pub AllOrdered : (s L : List ℕ) → Type 0
+AllOrdered s L = (a b : ℕ) → a < 24 → b < 24 → T (has (hitsOf L a) b) → Ordered s a b

@@ -2,16 +2,30 @@
 ghost use mathlib.Core.Path.{_≡_};
 ghost use Prim.Native.Nat.{ℕ, _≤_, _<_, _^_};
 ghost use lib.Dec.{T};
-ghost use Rattle.facts.specs.Facts.{has, Decides};
-ghost use Rattle.states.specs.State.{Search, MayStart, SafeJob, Dead};
+ghost use Rattle.facts.specs.Facts.{has};
+ghost use Rattle.facts.specs.Words.{Decides};
+ghost use Rattle.states.specs.State.{Search, StartMay, SafeJob, Dead};
 ghost use Rattle.cells.specs.View.{view};
 ghost use Rattle.lent.specs.Lent.{wantsOf, Lent};
-ghost use Rattle.lent.specs.Consumers.{who, SomeSafe, SafeFor, Ordered, NoFlaw};
+ghost use Rattle.lent.specs.Consumers.{whoAt, SomeSafe, SafeFor, Ordered, NoFlaw};
 ghost use Rattle.supports.specs.Supports.{Candidate, NoMay};
-ghost use Rattle.flaws.specs.Flaw.{fineChoice, deadChoice, jobChoice, pairChoice, parted, Picks, Alike, Eased, Sooner, Urgent, Pending, Seen, NoJob, OneLost, AllSafe, SafeBelow, Clash, RowApart, Apart};
+ghost use Rattle.flaws.specs.Flaw.{fineChoice, deadChoice, jobChoice, pairChoice, threatPair, Picks, Alike, Eased, Sooner, Urgent, Pending, SceneOf, NoCandidate, OneLost, AllSafe, SafeBelow, Interfering, RowOrdered, AllOrdered};
 use cells::State;
 use lent::Tables;
 
+// The kinds of a choice: no flaw, a flaw without a repair, a job to be in or out, a pair to be ordered.
+pub const FINE: u8 = 0;
+
+pub const DEAD: u8 = 1;
+
+pub const JOB: u8 = 2;
+
+pub const PAIR: u8 = 3;
+
+// Ranks below OPEN are those of threats, by their room; from OPEN on stand open conditions, by the earliest of their candidates.
+const OPEN: u64 = 1000000;
+
+// A choice to be made: its kind, its job or its pair, and its rank among the flaws.
 pub struct Choice {
     pub kind: u8,
     pub x: usize,
@@ -31,7 +45,7 @@ fn fine() -> Choice
     ensures { λ r. ⌜ r ≡ fineChoice ⌝ }
 {
     Choice {
-        kind: 0,
+        kind: FINE,
         x: 0,
         y: 0,
         rank: 0,
@@ -43,7 +57,7 @@ fn dead() -> Choice
     ensures { λ r. ⌜ r ≡ deadChoice ⌝ }
 {
     Choice {
-        kind: 1,
+        kind: DEAD,
         x: 0,
         y: 0,
         rank: 0,
@@ -55,7 +69,7 @@ fn job(x: usize) -> Choice
     ensures { λ r. ⌜ r ≡ jobChoice x ⌝ }
 {
     Choice {
-        kind: 2,
+        kind: JOB,
         x,
         y: 0,
         rank: 0,
@@ -67,7 +81,7 @@ fn pair(x: usize, y: usize) -> Choice
     ensures { λ r. ⌜ r ≡ pairChoice x y ⌝ }
 {
     Choice {
-        kind: 3,
+        kind: PAIR,
         x,
         y,
         rank: 0,
@@ -77,7 +91,7 @@ fn pair(x: usize, y: usize) -> Choice
 // Job d deletes the fact of the candidate a: it goes behind the consumer b if it surely is not over before a, else before a.
 fn part(s: &State, b: usize, a: usize, d: usize) -> Choice
     requires { ⌜ (a < 24) × (d < 24) ⌝ }
-    ensures { λ r. ⌜ r ≡ parted (view (now (s .entry)) .never d a) a b d ⌝ }
+    ensures { λ r. ⌜ r ≡ threatPair (view (now (s .entry)) .never d a) a b d ⌝ }
 {
     if cells::never(s, d, a) {
         return pair(b, d);
@@ -88,7 +102,7 @@ fn part(s: &State, b: usize, a: usize, d: usize) -> Choice
 // What the candidate a wants for the consumer b.
 fn support(s: &State, b: usize, a: usize, rest: u32) -> Choice
     requires { ⌜ (b ≤ 24) × (a < 24) ⌝ }
-    ensures { λ r. ⌜ ((P : Search) (p : ℕ) → Pending P (now (s .entry)) p b rest → Candidate P (now (s .entry)) p b a → Picks (now (s .entry)) (SafeJob P (view (now (s .entry))) p (who b) a) ⊥ r) ⌝ }
+    ensures { λ r. ⌜ ((P : Search) (p : ℕ) → Pending P (now (s .entry)) p b rest → Candidate P (now (s .entry)) p b a → Picks (now (s .entry)) (SafeJob P (view (now (s .entry))) p (whoAt b) a) ⊥ r) ⌝ }
 {
     if !supports::serves_for(s, a, b) {
         return pair(a, b);
@@ -96,7 +110,7 @@ fn support(s: &State, b: usize, a: usize, rest: u32) -> Choice
     if !cells::inside(s, a) {
         return job(a);
     }
-    let d = supports::lack(rest, cells::row_sure(s, a));
+    let d = jobs::lack(rest, cells::row_sure(s, a));
     if d == 24 {
         return fine();
     }
@@ -115,7 +129,7 @@ fn reach(s: &State, a: usize, t: &Tables) -> u64
 fn slack(s: &State, y: usize, early: u64) -> u64
     requires { ⌜ y < 24 ⌝ }
 {
-    let last = cells::wide(cells::hi(s, y));
+    let last = jobs::wide(cells::hi(s, y));
     if last < early {
         return 0;
     }
@@ -142,11 +156,11 @@ fn rank_of(s: &State, b: usize, c: Choice, t: &Tables) -> u64 {
         return 0;
     }
     let early = reach(s, x, t);
-    if c.kind == 2 {
-        return 1000000 + early;
+    if c.kind == JOB {
+        return OPEN + early;
     }
     if y == b {
-        return 1000000 + early;
+        return OPEN + early;
     }
     if 24 <= y {
         return 0;
@@ -156,10 +170,10 @@ fn rank_of(s: &State, b: usize, c: Choice, t: &Tables) -> u64 {
 
 // Among open conditions the one whose earliest candidate is latest comes first.
 fn turned(rank: u64) -> u64 {
-    if rank < 1000000 {
+    if rank < OPEN {
         return rank;
     }
-    3000000 - rank % 1000000
+    3 * OPEN - rank % OPEN
 }
 
 // The same choice with another rank.
@@ -178,10 +192,10 @@ fn ranked(c: Choice, rank: u64) -> Choice
 fn sooner(best: Choice, c: Choice) -> Choice
     ensures { λ r. ⌜ Sooner best c r ⌝ }
 {
-    if best.kind == 1 {
+    if best.kind == DEAD {
         return c;
     }
-    if c.kind == 0 {
+    if c.kind == FINE {
         return c;
     }
     if c.rank < best.rank {
@@ -194,13 +208,13 @@ fn sooner(best: Choice, c: Choice) -> Choice
 fn urgent(best: Choice, c: Choice) -> Choice
     ensures { λ r. ⌜ Urgent best c r ⌝ }
 {
-    if c.kind == 0 {
+    if c.kind == FINE {
         return best;
     }
-    if c.kind == 1 {
+    if c.kind == DEAD {
         return c;
     }
-    if best.kind == 0 {
+    if best.kind == FINE {
         return c;
     }
     if c.rank < best.rank {
@@ -212,7 +226,7 @@ fn urgent(best: Choice, c: Choice) -> Choice
 // What the candidate a wants, with its rank.
 fn offer(s: &State, x: Scene, a: usize, t: &Tables) -> Choice
     requires { ⌜ x .by ≤ 24 ⌝ }
-    ensures { λ r. ⌜ ((P : Search) (p : ℕ) → Seen P (now (s .entry)) p x → T (has (x .cands) a) → Picks (now (s .entry)) (SomeSafe P (now (s .entry)) p (x .by)) ⊥ r) ⌝ }
+    ensures { λ r. ⌜ ((P : Search) (p : ℕ) → SceneOf P (now (s .entry)) p x → T (has (x .cands) a) → Picks (now (s .entry)) (SomeSafe P (now (s .entry)) p (x .by)) ⊥ r) ⌝ }
 {
     if 24 <= a {
         return fine();
@@ -224,16 +238,16 @@ fn offer(s: &State, x: Scene, a: usize, t: &Tables) -> Choice
 // The candidate to be tried first, with what it wants.
 fn best_job(s: &State, x: Scene, t: &Tables) -> Choice
     requires { ⌜ x .by ≤ 24 ⌝ }
-    ensures { λ r. ⌜ ((P : Search) (p : ℕ) → Seen P (now (s .entry)) p x → Picks (now (s .entry)) (SomeSafe P (now (s .entry)) p (x .by)) (NoJob P (now (s .entry)) p (x .by)) r) ⌝ }
+    ensures { λ r. ⌜ ((P : Search) (p : ℕ) → SceneOf P (now (s .entry)) p x → Picks (now (s .entry)) (SomeSafe P (now (s .entry)) p (x .by)) (NoCandidate P (now (s .entry)) p (x .by)) r) ⌝ }
 {
     let mut best = dead();
     let mut w = x.cands;
     while w != 0 {
-        best = sooner(best, offer(s, x, cells::lowest(w), t));
-        if best.kind == 0 {
+        best = sooner(best, offer(s, x, jobs::lowest(w), t));
+        if best.kind == FINE {
             return best;
         }
-        w = cells::rest(w);
+        w = jobs::rest(w);
     }
     best
 }
@@ -241,9 +255,9 @@ fn best_job(s: &State, x: Scene, t: &Tables) -> Choice
 // Start is a candidate: what it wants.
 fn start_choice(s: &State, b: usize, rest: u32) -> Choice
     requires { ⌜ b ≤ 24 ⌝ }
-    ensures { λ r. ⌜ ((P : Search) (p : ℕ) → Pending P (now (s .entry)) p b rest → MayStart P (view (now (s .entry))) p (who b) → Picks (now (s .entry)) (SomeSafe P (now (s .entry)) p b) ⊥ r) ⌝ }
+    ensures { λ r. ⌜ ((P : Search) (p : ℕ) → Pending P (now (s .entry)) p b rest → StartMay P (view (now (s .entry))) p (whoAt b) → Picks (now (s .entry)) (SomeSafe P (now (s .entry)) p b) ⊥ r) ⌝ }
 {
-    let d = supports::lack(rest, 0);
+    let d = jobs::lack(rest, 0);
     if d == 24 {
         return fine();
     }
@@ -264,7 +278,7 @@ fn look(s: &State, b: usize, p: usize, t: &Tables) -> Choice
     };
     let d = best_job(s, x, t);
     let c = ranked(d, turned(d.rank));
-    if c.kind == 0 {
+    if c.kind == FINE {
         return c;
     }
     if !supports::may_start(t, p, dang) {
@@ -344,7 +358,7 @@ fn ordered(s: &State, a: usize, b: usize) -> bool
 // Two jobs that interfere.
 fn mutex_at(s: &State, a: usize, b: usize) -> Choice
     requires { ⌜ a < 24 ⌝ }
-    ensures { λ r. ⌜ ((P : Search) → Clash P a b → Picks (now (s .entry)) (b < 24 → Ordered (now (s .entry)) a b) (Dead P (view (now (s .entry)))) r) ⌝ }
+    ensures { λ r. ⌜ ((P : Search) → Interfering P a b → Picks (now (s .entry)) (b < 24 → Ordered (now (s .entry)) a b) (Dead P (view (now (s .entry)))) r) ⌝ }
 {
     if 24 <= b {
         return fine();
@@ -364,7 +378,7 @@ fn mutex_at(s: &State, a: usize, b: usize) -> Choice
 // Two jobs that interfere, with their rank.
 fn threat(s: &State, a: usize, b: usize, t: &Tables) -> Choice
     requires { ⌜ a < 24 ⌝ }
-    ensures { λ r. ⌜ ((P : Search) → Clash P a b → Picks (now (s .entry)) (b < 24 → Ordered (now (s .entry)) a b) (Dead P (view (now (s .entry)))) r) ⌝ }
+    ensures { λ r. ⌜ ((P : Search) → Interfering P a b → Picks (now (s .entry)) (b < 24 → Ordered (now (s .entry)) a b) (Dead P (view (now (s .entry)))) r) ⌝ }
 {
     let c = mutex_at(s, a, b);
     ranked(c, rank_of(s, 24, c, t))
@@ -372,7 +386,7 @@ fn threat(s: &State, a: usize, b: usize, t: &Tables) -> Choice
 
 // The job a with all that interfere with it.
 fn mutex_row(s: &State, a: usize, t: &Tables) -> Choice
-    ensures { λ r. ⌜ ((P : Search) → Lent (now (t .entry)) P → Picks (now (s .entry)) (RowApart (now (s .entry)) (now (t .entry)) a) (Dead P (view (now (s .entry)))) r) ⌝ }
+    ensures { λ r. ⌜ ((P : Search) → Lent (now (t .entry)) P → Picks (now (s .entry)) (RowOrdered (now (s .entry)) (now (t .entry)) a) (Dead P (view (now (s .entry)))) r) ⌝ }
 {
     if 24 <= a {
         return fine();
@@ -380,21 +394,21 @@ fn mutex_row(s: &State, a: usize, t: &Tables) -> Choice
     let mut best = fine();
     let mut w = lent::hits(t, a) & cells::insides(s);
     while w != 0 {
-        best = urgent(best, threat(s, a, cells::lowest(w), t));
-        w = cells::rest(w);
+        best = urgent(best, threat(s, a, jobs::lowest(w), t));
+        w = jobs::rest(w);
     }
     best
 }
 
 // All jobs that interfere.
 fn mutexes(s: &State, t: &Tables) -> Choice
-    ensures { λ r. ⌜ ((P : Search) → Lent (now (t .entry)) P → Picks (now (s .entry)) (Apart (now (s .entry)) (now (t .entry))) (Dead P (view (now (s .entry)))) r) ⌝ }
+    ensures { λ r. ⌜ ((P : Search) → Lent (now (t .entry)) P → Picks (now (s .entry)) (AllOrdered (now (s .entry)) (now (t .entry))) (Dead P (view (now (s .entry)))) r) ⌝ }
 {
     let mut best = fine();
     let mut w = cells::insides(s);
     while w != 0 {
-        best = urgent(best, mutex_row(s, cells::lowest(w), t));
-        w = cells::rest(w);
+        best = urgent(best, mutex_row(s, jobs::lowest(w), t));
+        w = jobs::rest(w);
     }
     best
 }
@@ -405,7 +419,7 @@ fn eased(s: &State, c: Choice, t: &Tables) -> Choice
 {
     let x = c.y;
     let y = c.x;
-    if c.kind != 3 || 1000000 <= c.rank {
+    if c.kind != PAIR || OPEN <= c.rank {
         return c;
     }
     if 24 <= x {
@@ -428,7 +442,7 @@ pub fn flaw(s: &State, t: &Tables) -> Choice
     ensures { λ r. ⌜ ((P : Search) → Lent (now (t .entry)) P → Picks (now (s .entry)) (NoFlaw P (now (s .entry)) (now (t .entry))) (Dead P (view (now (s .entry)))) r) ⌝ }
 {
     let c = consumers(s, t);
-    if c.kind != 0 {
+    if c.kind != FINE {
         return eased(s, c, t);
     }
     eased(s, mutexes(s, t), t)

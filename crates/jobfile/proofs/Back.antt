@@ -13,15 +13,15 @@ use lib.Seq.{length-take-le}
 use Rattle.facts.specs.Least.{any}
 use Rattle.facts.proofs.Bools.{or-cases, below-suc, at-most}
 use Rattle.facts.proofs.Least.{any-at}
-use Rattle.rules.specs.Refusals.{Verdict, accepted}
+use Rattle.refusals.specs.Refusals.{Verdict, accepted}
 use Rattle.rules.specs.Table.{tableChecks, boundCheck}
-use Rattle.rules.proofs.Refused.{if-zero, if-pass}
+use Rattle.refusals.proofs.Refused.{if-zero, if-pass}
 use Rattle.rules.proofs.Checked.{Passed, passed-conditions, passed-additions, passed-deletions, passed-opening, passed-goals}
 use Rattle.tables.specs.declared.Action.{Action}
 use Rattle.tables.specs.declared.Loaded.{Loaded}
 use Rattle.tables.specs.declared.Ask.{Ask}
 use Rattle.tables.specs.declared.Answer.{Answer}
-use Rattle.tables.specs.Tables.{noJob, jobAt, problem, answer, changed, callChecks}
+use Rattle.tables.specs.Tables.{noJob, jobAt, problem, answerOf, changed, callChecks}
 use Rattle.tables.proofs.Calls.{call-passed, cleared}
 use Rattle.tables.proofs.Lent.{filled-at, filled-same}
 use Rattle.bytes_le.specs.Little.{number, laid}
@@ -29,7 +29,8 @@ use Rattle.bytes_le.proofs.Stands.{Stands, stands-left, stands-right, stands-dr
 use Rattle.bytes_le.proofs.Laid.{length-laid}
 use Rattle.bytes_le.proofs.Fields.{Found, fields-found}
 use Rattle.jobfile.specs.Format.{recordFields, recordOf, recordsOf, trailerFields, trailerOf, saveOf, lengthAfter, trailerAt, trailerIn, askIn, distanceIn, tooFar, recordsIn, spoilt, actionIn, firstOf, tableIn}
-use Rattle.jobfile.specs.Calls.{saveChecks, readChecks, whole, taken, reading, writeChecks, Writes, saved, kept}
+use Rattle.jobfile.specs.Calls.{saveChecks, readChecks, whole, handedFrom, reading, writeChecks, Writes}
+use Rattle.jobfile.specs.Saved.{saved, kept}
 use Rattle.jobfile.proofs.Checks.{any-test, write-accepts}
 use Rattle.jobfile.proofs.Saves.{length-records, length-save}
 use Rattle.jobfile.proofs.Same.{checks-same}
@@ -162,12 +163,12 @@ module _ (l : Loaded) (q : Ask) (base size : ℕ) (a : Accepted l q base size) (
         ∙ if-pass _ 2 0 _ (λ h. clean l q (a .passed) (a .bound) (recordsIn file) records-are (subst (λ (x : Ask). T (any (spoilt (recordsIn file)) (x .jobs))) (trailer-is .0) h))
         ∙ judged
 
-    reading-is : reading file room ≡ whole (answer accepted 0 0) (saved q) (kept l (q .jobs) room)
-    reading-is = ap (λ (v : Verdict). taken v file room) reads ∙ ap₂ (whole (answer accepted 0 0)) (trailer-is .0) table-same
+    reading-is : reading file room ≡ whole (answerOf accepted 0 0) (saved q) (kept l (q .jobs) room)
+    reading-is = ap (λ (v : Verdict). handedFrom v file room) reads ∙ ap₂ (whole (answerOf accepted 0 0)) (trailer-is .0) table-same
 
 -- the first bytes, up to the new length, of what was written
 pub read-back : (l : Loaded) (q : Ask) (used room : ℕ) (buf : List ℕ) → writeChecks l q used (length buf) ≡ accepted → q .jobs ≤ room
-    → reading (take (lengthAfter used (q .jobs)) (laid (saveOf l q) used buf)) room ≡ whole (answer accepted 0 0) (saved q) (kept l (q .jobs) room)
+    → reading (take (lengthAfter used (q .jobs)) (laid (saveOf l q) used buf)) room ≡ whole (answerOf accepted 0 0) (saved q) (kept l (q .jobs) room)
 read-back l q used room buf h lent =
     reading-is l q used (length buf) a (take n (laid (saveOf l q) used buf)) (length-take-le n _ (omega (arith, length-laid (saveOf l q) used buf (omega (arith, long, a .room)), a .room)))
     (stands-take (saveOf l q) n used _ (omega (arith, long)) (stands-laid (saveOf l q) used buf (omega (arith, a .room)))) room lent
@@ -183,10 +184,10 @@ read-back l q used room buf h lent =
 
 -- by what the writer promises: where it accepts, the value returned is the length to read
 pub written-back : (l : Loaded) (q : Ask) (used room : ℕ) (old new : List ℕ) (r : Answer) → Writes l q used old new r → r .number ≡ 0 → q .jobs ≤ room
-    → reading (take (r .value) new) room ≡ whole (answer accepted 0 0) (saved q) (kept l (q .jobs) room)
+    → reading (take (r .value) new) room ≡ whole (answerOf accepted 0 0) (saved q) (kept l (q .jobs) room)
 written-back l q used room old new r h z lent =
     ap₂ (λ (n : ℕ) (xs : List ℕ). reading (take n xs) room)
-    (ap (λ (x : Answer). x .value) (h .says) ∙ ap (λ (v : Verdict). answer v (lengthAfter used (q .jobs)) 0 .value) yes)
+    (ap (λ (x : Answer). x .value) (h .says) ∙ ap (λ (v : Verdict). answerOf v (lengthAfter used (q .jobs)) 0 .value) yes)
     (h .bytes ∙ ap (λ (v : Verdict). changed v (laid (saveOf l q) used old) old) yes)
     ∙ read-back l q used room old yes lent
   where

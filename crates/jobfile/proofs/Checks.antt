@@ -10,8 +10,8 @@ use lib.ListN.{getD}
 use Rattle.facts.specs.Least.{any}
 use Rattle.facts.proofs.Bools.{same, certain, not-eqb, eqb-not}
 use Rattle.facts.proofs.Least.{any-of, any-at}
-use Rattle.rules.specs.Refusals.{accepted, refuseIf}
-use Rattle.rules.proofs.Refused.{if-checks, then-checks}
+use Rattle.refusals.specs.Refusals.{accepted, refuseIf}
+use Rattle.refusals.proofs.Refused.{if-checks, then-checks}
 use Rattle.tables.specs.declared.Loaded.{Loaded}
 use Rattle.tables.specs.declared.Ask.{Ask}
 use Rattle.tables.specs.Tables.{callChecks}

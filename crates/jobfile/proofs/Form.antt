@@ -12,20 +12,21 @@ use lib.Seq.{length-take-le, drop-drop}
 use Rattle.facts.specs.Least.{any}
 use Rattle.facts.proofs.Bools.{certain, or-l, or-r, at-most}
 use Rattle.facts.proofs.Least.{any-of}
-use Rattle.rules.specs.Refusals.{Verdict, accepted}
-use Rattle.rules.proofs.Refused.{if-zero}
+use Rattle.refusals.specs.Refusals.{Verdict, accepted}
+use Rattle.refusals.proofs.Refused.{if-zero}
 use Rattle.tables.specs.declared.Action.{Action}
 use Rattle.tables.specs.declared.Loaded.{Loaded}
 use Rattle.tables.specs.declared.Ask.{Ask}
 use Rattle.tables.specs.Tables.{noJob, jobAt}
 use Rattle.tables.proofs.Calls.{cleared}
 use Rattle.tables.proofs.Lent.{filled-at}
-use Rattle.bytes_le.specs.Little.{number, Bytes}
+use Rattle.bytes_le.specs.Little.{number}
+use Rattle.bytes_le.specs.Steps.{Bytes}
 use Rattle.bytes_le.proofs.Stands.{Stands, stands-both, stands-all, bytes-take, bytes-drop}
 use Rattle.bytes_le.proofs.Fields.{found-fields}
 use Rattle.jobfile.specs.declared.Read.{Read}
 use Rattle.jobfile.specs.Format.{recordFields, recordOf, recordsOf, trailerFields, trailerOf, saveOf, trailerAt, trailerIn, askIn, distanceIn, tooFar, recordsIn, spoilt, actionIn, tableIn}
-use Rattle.jobfile.specs.Calls.{readChecks, saveChecks, taken, reading}
+use Rattle.jobfile.specs.Calls.{readChecks, saveChecks, handedFrom, reading}
 use Rattle.jobfile.proofs.Checks.{any-test}
 use Rattle.jobfile.proofs.Saves.{length-records, length-trailer}
 
@@ -135,5 +136,5 @@ pub same-save : (xs ys : List ℕ) (room : ℕ) → Bytes xs → Bytes ys → re
     → reading xs room ≡ reading ys room → xs ≡ ys
 same-save xs ys room bx by hx hy ax ay e =
     alone-form xs room bx hx ax
-    ∙ ap (λ (r : Read). saveOf (r .table) (r .ask)) (sym (ap (λ (v : Verdict). taken v xs room) hx) ∙ e ∙ ap (λ (v : Verdict). taken v ys room) hy)
+    ∙ ap (λ (r : Read). saveOf (r .table) (r .ask)) (sym (ap (λ (v : Verdict). handedFrom v xs room) hx) ∙ e ∙ ap (λ (v : Verdict). handedFrom v ys room) hy)
     ∙ sym (alone-form ys room by hy ay)

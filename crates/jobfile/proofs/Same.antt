@@ -7,12 +7,13 @@ use lib.Dec.{ltb}
 use Rattle.facts.specs.Facts.{has}
 use Rattle.facts.specs.Least.{any}
 use Rattle.facts.proofs.Least.{least-same}
-use Rattle.rules.specs.Refusals.{Verdict, refuseIf, refuseAt}
+use Rattle.refusals.specs.Refusals.{Verdict, refuseIf, refuseAt}
 use Rattle.rules.specs.Table.{between, strays, jobStrays, undoes, jobChecks, tableChecks}
 use Rattle.tables.specs.declared.Action.{Action}
 use Rattle.tables.specs.declared.Loaded.{Loaded}
 use Rattle.tables.specs.declared.Ask.{Ask}
-use Rattle.tables.specs.Tables.{jobAt, problem, strayRecord}
+use Rattle.tables.specs.Tables.{jobAt, problem}
+use Rattle.tables.specs.Steps.{strayRecord}
 
 -- a test of each job
 each-same : (f : Action → Bool) (l l′ : Loaded) (m n : ℕ) (v : Verdict) → ((i : ℕ) → i < m → jobAt l i ≡ jobAt l′ i)

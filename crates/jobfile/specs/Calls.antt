@@ -7,11 +7,11 @@ use Prim.Native.Nat.{ℕ}
 use lib.Dec.{eqb, ltb}
 use lib.ListN.{length}
 use Rattle.facts.specs.Least.{any}
-use Rattle.rules.specs.Refusals.{Verdict, accepted, refuseIf}
+use Rattle.refusals.specs.Refusals.{Verdict, accepted, refuseIf}
 use Rattle.tables.specs.declared.Loaded.{Loaded}
 use Rattle.tables.specs.declared.Ask.{Ask}
 use Rattle.tables.specs.declared.Answer.{Answer}
-use Rattle.tables.specs.Tables.{answer, changed, callChecks, jobAt, tabled, noJobs}
+use Rattle.tables.specs.Tables.{answerOf, changed, callChecks, noJobs}
 use Rattle.bytes_le.specs.Little.{laid}
 use Rattle.jobfile.specs.declared.Read.{Read}
 use Rattle.jobfile.specs.Format.{saveOf, lengthAfter, trailerAt, trailerIn, askIn, distanceIn, tooFar, recordsIn, spoilt, tableIn}
@@ -45,16 +45,16 @@ abbrev pub nothing : Answer → Read
 nothing a = whole a noAsk (noJobs 0)
 
 -- what is returned where the checks say v: the numbers and records where they accept
-abbrev pub given : Verdict → Ask → Loaded → Read
-given v q l = cond (eqb (v .number) 0) (whole (answer v 0 0) q l) (nothing (answer v 0 0))
+abbrev pub handed : Verdict → Ask → Loaded → Read
+handed v q l = cond (eqb (v .number) 0) (whole (answerOf v 0 0) q l) (nothing (answerOf v 0 0))
 
 -- the same with what the file holds
-abbrev pub taken : Verdict → List ℕ → (room : ℕ) → Read
-taken v file room = given v (askIn (trailerIn file)) (tableIn (recordsIn file) (askIn (trailerIn file) .jobs) room)
+abbrev pub handedFrom : Verdict → List ℕ → (room : ℕ) → Read
+handedFrom v file room = handed v (askIn (trailerIn file)) (tableIn (recordsIn file) (askIn (trailerIn file) .jobs) room)
 
 -- what the reader returns
 abbrev pub reading : List ℕ → (room : ℕ) → Read
-reading file room = taken (readChecks file room) file room
+reading file room = handedFrom (readChecks file room) file room
 
 -- ── writing ──
 
@@ -64,15 +64,7 @@ writeChecks l q used size = refuseIf (ltb 65536 (lengthAfter used (q .jobs))) 1 
 
 -- the answer is the new length, and the buffer has the save behind the bytes used; every other byte is as it was
 pub record Writes (l : Loaded) (q : Ask) (used : ℕ) (old new : List ℕ) (r : Answer) : Type 0 where
-  pub says : r ≡ answer (writeChecks l q used (length old)) (lengthAfter used (q .jobs)) 0
+  pub says : r ≡ answerOf (writeChecks l q used (length old)) (lengthAfter used (q .jobs)) 0
   pub bytes : new ≡ changed (writeChecks l q used (length old)) (laid (saveOf l q) used old) old
 
 -- ── what was saved ──
-
--- the numbers saved: a file holds neither a set nor pairs
-abbrev pub saved : Ask → Ask
-saved q = record { jobs = q .jobs; atoms = q .atoms; opening = q .opening; goals = q .goals; bound = q .bound; set = 0; pairs = 0 }
-
--- the records saved, as a caller that lends `room` records gets them
-abbrev pub kept : Loaded → (n room : ℕ) → Loaded
-kept l n room = tabled (jobAt l) n room

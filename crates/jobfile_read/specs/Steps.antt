@@ -7,6 +7,6 @@ use Rattle.tables.specs.declared.Ask.{Ask}
 use Rattle.jobfile.specs.Format.{askIn}
 
 -- the numbers that a trailer gives, and the job count is one byte
-pub record Asks (t : List ℕ) (r : Ask) : Type 0 where
+pub record TrailerAsk (t : List ℕ) (r : Ask) : Type 0 where
   pub says : r ≡ askIn t
   pub small : r .jobs < 256

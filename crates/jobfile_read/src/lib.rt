@@ -3,10 +3,10 @@ ghost use mathlib.Core.Path.{_≡_};
 ghost use Prim.Native.Nat.{_+_, _*_, _≤_, _<_};
 ghost use lib.ListN.{length};
 ghost use Rattle.facts.specs.Least.{any};
-ghost use Rattle.tables.specs.Tables.{Tests};
+ghost use Rattle.tables.specs.Steps.{Tests};
 ghost use Rattle.jobfile.specs.Format.{tooFar, spoilt, actionIn, firstOf, tableIn};
-ghost use Rattle.jobfile.specs.Calls.{recordChecks, saveChecks, given, taken, nothing, reading};
-ghost use Rattle.jobfile_read.specs.Steps.{Asks};
+ghost use Rattle.jobfile.specs.Calls.{recordChecks, saveChecks, handed, handedFrom, nothing, reading};
+ghost use Rattle.jobfile_read.specs.Steps.{TrailerAsk};
 use bytes_le::number;
 use jobfile::Read;
 use tables::Action;
@@ -65,7 +65,7 @@ fn first_records(records: &[u8], n: usize, room: usize) -> Loaded
 // The numbers of the trailer.
 fn ask_in(trailer: &[u8]) -> Ask
     requires { ⌜ length (now trailer) ≡ 24 ⌝ }
-    ensures { λ r. ⌜ Asks (now (trailer .entry)) r ⌝ }
+    ensures { λ r. ⌜ TrailerAsk (now (trailer .entry)) r ⌝ }
 {
     Ask {
         jobs: number(trailer, 18, 1) as usize,
@@ -110,7 +110,7 @@ fn nothing(a: Answer) -> Read
 // The records of a save, with its numbers.
 fn read_records(records: &[u8], q: Ask, room: usize) -> Read
     requires { ⌜ 32 * q .jobs ≤ length (now records) ⌝ }
-    ensures { λ r. ⌜ r ≡ given (recordChecks (now (records .entry)) q room) q (tableIn (now (records .entry)) (q .jobs) room) ⌝ }
+    ensures { λ r. ⌜ r ≡ handed (recordChecks (now (records .entry)) q room) q (tableIn (now (records .entry)) (q .jobs) room) ⌝ }
 {
     let jobs = q.jobs;
     if any_spoilt(records, jobs) {
@@ -131,7 +131,7 @@ fn read_records(records: &[u8], q: Ask, room: usize) -> Read
 // The last save of a file: the trailer is the last 24 bytes, and its distance leads back to the records.
 fn read_save(file: &[u8], room: usize) -> Read
     requires { ⌜ 24 ≤ length (now file) ⌝ }
-    ensures { λ r. ⌜ r ≡ taken (saveChecks (now (file .entry)) room) (now (file .entry)) room ⌝ }
+    ensures { λ r. ⌜ r ≡ handedFrom (saveChecks (now (file .entry)) room) (now (file .entry)) room ⌝ }
 {
     let n = file.len();
     let start = n - 24;

@@ -3,8 +3,8 @@ ghost use mathlib.Core.Path.{_≡_};
 ghost use Prim.Native.Nat.{_*_, _≤_};
 ghost use lib.Dec.{ltb};
 ghost use lib.ListN.{length};
-ghost use Rattle.tables.specs.Tables.{Tests};
-ghost use Rattle.bytes_le.specs.Little.{over};
+ghost use Rattle.tables.specs.Steps.{Tests};
+ghost use Rattle.bytes_le.specs.Little.{atFront};
 ghost use Rattle.jobfile.specs.Format.{recordOf, recordsOf, trailerOf, lengthAfter};
 ghost use Rattle.jobfile.specs.Calls.{Writes};
 use bytes_le::put;
@@ -16,7 +16,7 @@ use tables::Loaded;
 // A record, over the first 32 bytes.
 fn put_record(a: Action, out: &mut [u8])
     requires { ⌜ 32 ≤ length (now out) ⌝ }
-    ensures { λ _. ⌜ now (out .exit) ≡ over (recordOf a) (now (out .entry)) ⌝ }
+    ensures { λ _. ⌜ now (out .exit) ≡ atFront (recordOf a) (now (out .entry)) ⌝ }
 {
     put(a.conditions, 8, 0, out);
     put(a.additions, 8, 8, out);
@@ -28,7 +28,7 @@ fn put_record(a: Action, out: &mut [u8])
 // The records of the first n jobs, over the first places.
 fn put_records(l: Loaded, n: usize, out: &mut [u8])
     requires { ⌜ (n ≤ 24) × (32 * n ≤ length (now out)) ⌝ }
-    ensures { λ _. ⌜ now (out .exit) ≡ over (recordsOf l n) (now (out .entry)) ⌝ }
+    ensures { λ _. ⌜ now (out .exit) ≡ atFront (recordsOf l n) (now (out .entry)) ⌝ }
 {
     for i in 0..n {
         let at = 32 * i;
@@ -39,7 +39,7 @@ fn put_records(l: Loaded, n: usize, out: &mut [u8])
 // The trailer, over the first 24 bytes.
 fn put_trailer(q: Ask, out: &mut [u8])
     requires { ⌜ (q .jobs ≤ 24) × (24 ≤ length (now out)) ⌝ }
-    ensures { λ _. ⌜ now (out .exit) ≡ over (trailerOf q) (now (out .entry)) ⌝ }
+    ensures { λ _. ⌜ now (out .exit) ≡ atFront (trailerOf q) (now (out .entry)) ⌝ }
 {
     let jobs = q.jobs as u64;
     put(q.opening, 8, 0, out);

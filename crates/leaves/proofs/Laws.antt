@@ -15,26 +15,26 @@ use Rattle.facts.proofs.Lists.{getD-past}
 use Rattle.facts.proofs.Sets.{has-and}
 use Rattle.facts.proofs.Walks.{Done, done-all}
 use Rattle.rules.specs.Plans.{Plan}
-use Rattle.rules.specs.Supports.{Support}
+use Rattle.rules.specs.Supports.{Support, Who, task, goal}
 use Rattle.rules.proofs.Sums.{sum-more}
-use Rattle.states.specs.State.{Search, Left, Dead, More, Whole, Timed, Who, task, goal, Wants, there, Safe, Ahead}
-use Rattle.cells.specs.View.{sures, ins, los, word, view, Puts, From}
+use Rattle.states.specs.State.{Search, Left, Dead, More, Flawless, Timed, NeedsFact, there, Safe, Ahead}
+use Rattle.cells.specs.View.{sures, ins, los, wordAt, view, Puts, From}
 use Rattle.cells.proofs.Changes.{none, says, new-word}
 use Rattle.lent.specs.Lent.{stepOf, Lent}
 use Rattle.lent.specs.Consumers.{NoFlaw}
 use Rattle.lent.proofs.Consumers.{who-job}
-use Rattle.leaves.specs.Leaf.{Violated, RowSteady, Late, room, Raised, Stands, AllStand, Checks, Starts, planOf, Answers, LeafOk}
+use Rattle.leaves.specs.Leaf.{Violated, RowSteady, ViolatedRow, room, Raised, InPlace, AllInPlace, Verifies, StartsOf, planOf, Resolves, LeafOk}
 use Rattle.states.proofs.Rules as rules
 use Rattle.states.proofs.Leaf as leaf
 
 -- ── settling ──
 
-pub late-none : {s L : List ℕ} {b : ℕ} → RowSteady s L b → Late s L b 24
+pub late-none : {s L : List ℕ} {b : ℕ} → RowSteady s L b → ViolatedRow s L b 24
 late-none h = record { here = λ l. absurd (omega arith); none = λ l. h }
 
 -- whoever is violated with b is in b's row and inside
-pub row-done : {s L : List ℕ} {b w : ℕ} → Done (λ a. Violated s L a b → ⊥) (bitAnd (word s (sures b)) (word s ins)) w → w ≡ 0 → Late s L b 24
-row-done {s} {L} {b} d e = late-none (λ a v. done-all d e a (subst T (sym (has-and (word s (sures b)) (word s ins) a)) (and-of (has (word s (sures b)) a) _ (v .order) (v .inside))) v)
+pub row-done : {s L : List ℕ} {b w : ℕ} → Done (λ a. Violated s L a b → ⊥) (bitAnd (wordAt s (sures b)) (wordAt s ins)) w → w ≡ 0 → ViolatedRow s L b 24
+row-done {s} {L} {b} d e = late-none (λ a v. done-all d e a (subst T (sym (has-and (wordAt s (sures b)) (wordAt s ins) a)) (and-of (has (wordAt s (sures b)) a) _ (v .order) (v .inside))) v)
 
 -- a lower bound that rises makes the room smaller
 room-falls : (s r : List ℕ) (b : ℕ) → More (view s) (view r) → b < 24 → view s .lo b < view r .lo b → view r .lo b < 2 ^ 32 → room r < room s
@@ -62,13 +62,13 @@ module _ {s L : List ℕ} {a b : ℕ} (v : Violated s L a b) where
 -- ── checks ──
 
 module _ {Ok : Search → Type 0} {s : List ℕ} {X : Type 0} where
-  pub checks-fine : X → Checks Ok s true X
+  pub checks-fine : X → Verifies Ok s true X
   checks-fine h = record { fine = λ e. h; dead = λ e. absurd (true≢false e) }
 
-  pub checks-dead : ((P : Search) → Ok P → Dead P (view s)) → Checks Ok s false X
+  pub checks-dead : ((P : Search) → Ok P → Dead P (view s)) → Verifies Ok s false X
   checks-dead h = record { fine = λ e. absurd (false≢true e); dead = λ e. h }
 
-  pub checks-le : (x y : ℕ) → (x ≤ y → X) → (y < x → (P : Search) → Ok P → Dead P (view s)) → Checks Ok s (leb x y) X
+  pub checks-le : (x y : ℕ) → (x ≤ y → X) → (y < x → (P : Search) → Ok P → Dead P (view s)) → Verifies Ok s (leb x y) X
   checks-le x y f g = record { fine = λ e. f (leb-true x y e); dead = λ e. g (leb-false x y e) }
 
 -- a job that is inside and that no plan has
@@ -78,14 +78,14 @@ out s P j i h Q l = let k = l .fits .stays .inside j i in h Q (k .below) (l .fit
 
 -- ── the leaf ──
 
-pub refused : {Ok : Search → Type 0} {s q : List ℕ} → ((P : Search) → Ok P → Dead P (view s)) → Answers Ok s q q false
+pub refused : {Ok : Search → Type 0} {s q : List ℕ} → ((P : Search) → Ok P → Dead P (view s)) → Resolves Ok s q q false
 refused h = record { plan = λ e. absurd (false≢true e); size = λ e. absurd (false≢true e); none = λ e. h; same = λ e. refl }
 
-pub strays : {L : List ℕ} (s : List ℕ) → (((j : ℕ) → T (has (word s ins) j) → j < 24) → ⊥) → (P : Search) → Lent L P → Dead P (view s)
+pub strays : {L : List ℕ} (s : List ℕ) → (((j : ℕ) → T (has (wordAt s ins) j) → j < 24) → ⊥) → (P : Search) → Lent L P → Dead P (view s)
 strays s n P e Q l = n (λ j i. omega (arith, l .fits .stays .inside j i .below, e .listed .few))
 
-module _ {s L q : List ℕ} (ok : LeafOk s L) (ns : (j : ℕ) → T (has (word s ins) j) → j < 24) (al : AllStand s L 24) (st : Starts s 24 q) where
-  stands : (j : ℕ) → T (view s .inside j) → Stands s L j
+module _ {s L q : List ℕ} (ok : LeafOk s L) (ns : (j : ℕ) → T (has (wordAt s ins) j) → j < 24) (al : AllInPlace s L 24) (st : StartsOf s 24 q) where
+  stands : (j : ℕ) → T (view s .inside j) → InPlace s L j
   stands j i = al j (ns j i) i
 
   off : (j : ℕ) → (T (view s .inside j) → ⊥) → planOf q j ≡ 65535
@@ -102,7 +102,7 @@ module _ {s L q : List ℕ} (ok : LeafOk s L) (ns : (j : ℕ) → T (has (word s
     below : (j : ℕ) → T (view s .inside j) → j < P .problem .count
     below j i = omega (arith, stands j i .below, l .listed .count)
 
-    whole : Whole P (view s)
+    whole : Flawless P (view s)
     whole = record {
       below = below;
       clean = λ j i. stands j i .free;
@@ -113,9 +113,9 @@ module _ {s L q : List ℕ} (ok : LeafOk s L) (ns : (j : ℕ) → T (has (word s
         nf : NoFlaw P s L
         nf = ok .whole P l
 
-        ready : (w : Who) (p : ℕ) → T (there (view s) w) → Wants P w p → (x : Support) × Safe P (view s) p w x
+        ready : (w : Who) (p : ℕ) → T (there (view s) w) → NeedsFact P w p → (x : Support) × Safe P (view s) p w x
         ready (task b) p i n =
-            subst (λ (v : Who). T (there (view s) v) → Wants P v p → (x : Support) × Safe P (view s) p v x) (who-job b (ns b i)) (λ t w. nf .ready b (omega (arith, ns b i)) t p w) i n
+            subst (λ (v : Who). T (there (view s) v) → NeedsFact P v p → (x : Support) × Safe P (view s) p v x) (who-job b (ns b i)) (λ t w. nf .ready b (omega (arith, ns b i)) t p w) i n
         ready goal p i n = nf .ready 24 (omega arith) i p n
 
     order : (a b : ℕ) → T (view s .inside a) → T (view s .inside b) → T (view s .sure a b) → Ahead P (planOf q) a b
@@ -134,7 +134,7 @@ module _ {s L q : List ℕ} (ok : LeafOk s L) (ns : (j : ℕ) → T (has (word s
       out = off;
     }
 
-  pub found : {old : List ℕ} → Answers (Lent L) s old q true
+  pub found : {old : List ℕ} → Resolves (Lent L) s old q true
   found = record {
     plan = λ e P l. leaf.leaf P (l .listed .wf) (l .short) (view s) (whole P l) (planOf q) (timed P l);
     size = λ e. st .size;

@@ -7,8 +7,8 @@ use Prim.Native.Nat.{ℕ, _+_, _-_, _≤_, _<_, _^_}
 use lib.Dec.{T}
 use lib.ListN.{getD, length}
 use Rattle.rules.specs.Plans.{Plan}
-use Rattle.rules.proofs.Sums.{sum}
-use Rattle.states.specs.State.{Search, Dead, Plans}
+use Rattle.rules.specs.Sums.{sum}
+use Rattle.states.specs.State.{Search, Dead, PlanIn}
 use Rattle.cells.specs.View.{view, Prunes}
 use Rattle.lent.specs.Lent.{stepOf, countOf, boundOf, Lent}
 use Rattle.lent.specs.Consumers.{NoFlaw}
@@ -23,11 +23,12 @@ pub record Violated (s L : List ℕ) (a b : ℕ) : Type 0 where
   pub order : T (view s .sure a b)
   pub late : view s .lo b < view s .lo a + stepOf L a
 
+-- no job is violated with b
 abbrev pub RowSteady : (s L : List ℕ) (b : ℕ) → Type 0
 RowSteady s L b = (a : ℕ) → Violated s L a b → ⊥
 
 -- a job that is violated with b, or 24 for none
-pub record Late (s L : List ℕ) (b r : ℕ) : Type 0 where
+pub record ViolatedRow (s L : List ℕ) (b r : ℕ) : Type 0 where
   pub here : r < 24 → Violated s L r b
   pub none : 24 ≤ r → RowSteady s L b
 
@@ -55,25 +56,28 @@ pub record AtRest (L s : List ℕ) (ok : Bool) : Type 0 where
   pub steady : ok ≡ true → Steady s L
   pub dead : ok ≡ false → (P : Search) → Lent L P → Dead P (view s)
 
+-- the lower bounds were raised until they are settled, or no plan is left
 pub record SettledBy (L s r : List ℕ) (ok : Bool) : Type 0 where
   pub prunes : Prunes (Lent L) s r
   pub rest : AtRest L r ok
 
 -- job j is of the table, not barred, in its window and in the bound
-pub record Stands (s L : List ℕ) (j : ℕ) : Type 0 where
+pub record InPlace (s L : List ℕ) (j : ℕ) : Type 0 where
   pub below : j < countOf L
   pub free : T (view s .barred j) → ⊥
   pub window : view s .lo j ≤ view s .hi j
   pub ends : view s .lo j + stepOf L j ≤ boundOf L
 
-abbrev pub StandsIf : (s L : List ℕ) (j : ℕ) → Type 0
-StandsIf s L j = T (view s .inside j) → Stands s L j
+-- job j is in place, if it is inside
+abbrev pub InPlaceIf : (s L : List ℕ) (j : ℕ) → Type 0
+InPlaceIf s L j = T (view s .inside j) → InPlace s L j
 
-abbrev pub AllStand : (s L : List ℕ) (n : ℕ) → Type 0
-AllStand s L n = (j : ℕ) → j < n → StandsIf s L j
+-- so is each of the first n jobs
+abbrev pub AllInPlace : (s L : List ℕ) (n : ℕ) → Type 0
+AllInPlace s L n = (j : ℕ) → j < n → InPlaceIf s L j
 
 -- the answer of a check of a state: X, or no plan is left
-pub record Checks (Ok : Search → Type 0) (s : List ℕ) (b : Bool) (X : Type 0) : Type 0 where
+pub record Verifies (Ok : Search → Type 0) (s : List ℕ) (b : Bool) (X : Type 0) : Type 0 where
   pub fine : b ≡ true → X
   pub dead : b ≡ false → (P : Search) → Ok P → Dead P (view s)
 
@@ -83,20 +87,22 @@ pub record StartIs (inside : Bool) (t x : ℕ) : Type 0 where
   pub out : (T inside → ⊥) → x ≡ 65535
 
 -- the starts of the first n jobs
-pub record Starts (s : List ℕ) (n : ℕ) (out : List ℕ) : Type 0 where
+pub record StartsOf (s : List ℕ) (n : ℕ) (out : List ℕ) : Type 0 where
   pub size : length out ≡ 24
   pub each : (j : ℕ) → j < n → StartIs (view s .inside j) (view s .lo j) (getD out j 65535)
 
+-- the plan of these starts; a job behind them is out
 abbrev pub planOf : List ℕ → Plan
 planOf l j = getD l j 65535
 
 -- a plan that stays in the state, as starts; or none is left, and the starts are as they were
-pub record Answers (Ok : Search → Type 0) (s old new : List ℕ) (found : Bool) : Type 0 where
-  pub plan : found ≡ true → (P : Search) → Ok P → Plans P (view s) (planOf new)
+pub record Resolves (Ok : Search → Type 0) (s old new : List ℕ) (found : Bool) : Type 0 where
+  pub plan : found ≡ true → (P : Search) → Ok P → PlanIn P (view s) (planOf new)
   pub size : found ≡ true → length new ≡ 24
   pub none : found ≡ false → (P : Search) → Ok P → Dead P (view s)
   pub same : found ≡ false → new ≡ old
 
+-- the state is a plan: its lower bounds are settled, and it has no flaw
 pub record LeafOk (s L : List ℕ) : Type 0 where
   pub steady : Steady s L
   pub whole : (P : Search) → Lent L P → NoFlaw P s L

@@ -3,10 +3,11 @@ ghost use mathlib.Core.Path.{_≡_};
 ghost use Prim.Native.Nat.{ℕ, _<_};
 ghost use lib.Dec.{T};
 ghost use lib.ListN.{length};
-ghost use Rattle.facts.specs.Facts.{has, Decides};
+ghost use Rattle.facts.specs.Facts.{has};
+ghost use Rattle.facts.specs.Words.{Decides};
 ghost use Rattle.cells.specs.View.{view};
 ghost use Rattle.lent.specs.Lent.{Lent};
-ghost use Rattle.leaves.specs.Leaf.{Violated, Late, Finds, Raised, SettledBy, StandsIf, AllStand, Checks, StartIs, Starts, Answers, LeafOk};
+ghost use Rattle.leaves.specs.Leaf.{Violated, ViolatedRow, Finds, Raised, SettledBy, InPlaceIf, AllInPlace, Verifies, StartIs, StartsOf, Resolves, LeafOk};
 use cells::State;
 use lent::Tables;
 
@@ -33,23 +34,23 @@ fn violated_at(s: &State, a: usize, b: usize, t: &Tables) -> bool
     if !cells::sure(s, a, b) {
         return false;
     }
-    cells::wide(cells::lo(s, b)) < cells::sum(cells::lo(s, a), lent::step(t, a))
+    jobs::wide(cells::lo(s, b)) < cells::sum(cells::lo(s, a), lent::step(t, a))
 }
 
 // Such a job a for b, or 24.
 fn violated_row(s: &State, b: usize, t: &Tables) -> usize
-    ensures { λ r. ⌜ Late (now (s .entry)) (now (t .entry)) b r ⌝ }
+    ensures { λ r. ⌜ ViolatedRow (now (s .entry)) (now (t .entry)) b r ⌝ }
 {
     if 24 <= b {
         return 24;
     }
     let mut w = cells::row_sure(s, b) & cells::insides(s);
     while w != 0 {
-        let a = cells::lowest(w);
+        let a = jobs::lowest(w);
         if violated_at(s, a, b, t) {
             return a;
         }
-        w = cells::rest(w);
+        w = jobs::rest(w);
     }
     24
 }
@@ -60,7 +61,7 @@ fn violated(s: &State, t: &Tables) -> Pair
 {
     let mut w = cells::insides(s);
     while w != 0 {
-        let b = cells::lowest(w);
+        let b = jobs::lowest(w);
         let a = violated_row(s, b, t);
         if a < 24 {
             return Pair {
@@ -68,7 +69,7 @@ fn violated(s: &State, t: &Tables) -> Pair
                 second: b,
             };
         }
-        w = cells::rest(w);
+        w = jobs::rest(w);
     }
     Pair {
         first: 24,
@@ -82,7 +83,7 @@ fn raise(s: &mut State, a: usize, b: usize, t: &Tables) -> bool
     ensures { λ r. ⌜ Raised (now (t .entry)) (now (s .entry)) (now (s .exit)) r ⌝ }
 {
     let x = cells::sum(cells::lo(s, a), lent::step(t, a));
-    if cells::wide(cells::hi(s, b)) < x {
+    if jobs::wide(cells::hi(s, b)) < x {
         return false;
     }
     cells::put_lo(s, b, x as u32);
@@ -107,7 +108,7 @@ pub fn settle(s: &mut State, t: &Tables) -> bool
 // Job j is out, or of the table and over by the bound within its window.
 fn stands_at(s: &State, j: usize, t: &Tables) -> bool
     requires { ⌜ j < 24 ⌝ }
-    ensures { λ r. ⌜ Checks (Lent (now (t .entry))) (now (s .entry)) r (StandsIf (now (s .entry)) (now (t .entry)) j) ⌝ }
+    ensures { λ r. ⌜ Verifies (Lent (now (t .entry))) (now (s .entry)) r (InPlaceIf (now (s .entry)) (now (t .entry)) j) ⌝ }
 {
     if !cells::inside(s, j) {
         return true;
@@ -121,12 +122,12 @@ fn stands_at(s: &State, j: usize, t: &Tables) -> bool
     if cells::hi(s, j) < cells::lo(s, j) {
         return false;
     }
-    cells::sum(cells::lo(s, j), lent::step(t, j)) <= cells::wide(lent::bound(t))
+    cells::sum(cells::lo(s, j), lent::step(t, j)) <= jobs::wide(lent::bound(t))
 }
 
 // The same of all jobs.
 fn stand_all(s: &State, t: &Tables) -> bool
-    ensures { λ r. ⌜ Checks (Lent (now (t .entry))) (now (s .entry)) r (AllStand (now (s .entry)) (now (t .entry)) 24) ⌝ }
+    ensures { λ r. ⌜ Verifies (Lent (now (t .entry))) (now (s .entry)) r (AllInPlace (now (s .entry)) (now (t .entry)) 24) ⌝ }
 {
     for j in 0..24 {
         if !stands_at(s, j, t) {
@@ -161,7 +162,7 @@ fn start_at(s: &State, j: usize) -> u16
 // The starts of all jobs.
 fn starts(s: &State, out: &mut [u16])
     requires { ⌜ length (now out) ≡ 24 ⌝ }
-    ensures { λ _. ⌜ Starts (now (s .entry)) 24 (now (out .exit)) ⌝ }
+    ensures { λ _. ⌜ StartsOf (now (s .entry)) 24 (now (out .exit)) ⌝ }
 {
     for j in 0..24 {
         out[j] = start_at(s, j);
@@ -171,7 +172,7 @@ fn starts(s: &State, out: &mut [u16])
 // A state without a flaw whose lower bounds are settled: they are a plan, or nothing fits.
 pub fn leaf(s: &State, t: &Tables, out: &mut [u16; 24]) -> bool
     requires { ⌜ LeafOk (now s) (now t) ⌝ }
-    ensures { λ r. ⌜ Answers (Lent (now (t .entry))) (now (s .entry)) (now (out .entry)) (now (out .exit)) r ⌝ }
+    ensures { λ r. ⌜ Resolves (Lent (now (t .entry))) (now (s .entry)) (now (out .entry)) (now (out .exit)) r ⌝ }
 {
     if !no_stray(cells::insides(s)) {
         return false;

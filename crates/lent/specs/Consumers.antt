@@ -6,27 +6,29 @@ use mathlib.Core.List.{List}
 use Prim.Native.Nat.{ℕ, _≤_, _<_}
 use lib.Dec.{T, ltb}
 use Rattle.facts.specs.Facts.{has}
-use Rattle.rules.specs.Supports.{Support}
-use Rattle.states.specs.State.{Search, Who, task, goal, Wants, there, Safe}
+use Rattle.rules.specs.Supports.{Support, Who, task, goal}
+use Rattle.states.specs.State.{Search, NeedsFact, there, Safe}
 use Rattle.cells.specs.View.{view}
 use Rattle.lent.specs.Lent.{hitsOf}
 
+-- job b, or End
 abbrev pub whoOf : Bool → ℕ → Who
 whoOf true b = task b
 whoOf false b = goal
 
 -- consumer b: a job, or End where b is 24
-abbrev pub who : ℕ → Who
-who b = whoOf (ltb b 24) b
+abbrev pub whoAt : ℕ → Who
+whoAt b = whoOf (ltb b 24) b
 
 -- ── no flaw ──
 
+-- the fact p has a safe support for the consumer b
 abbrev pub SomeSafe : Search → List ℕ → (p b : ℕ) → Type 0
-SomeSafe P s p b = (x : Support) × Safe P (view s) p (who b) x
+SomeSafe P s p b = (x : Support) × Safe P (view s) p (whoAt b) x
 
 -- every fact that the consumer b wants has a safe support, if b is there
 abbrev pub SafeFor : Search → List ℕ → ℕ → Type 0
-SafeFor P s b = T (there (view s) (who b)) → (p : ℕ) → Wants P (who b) p → SomeSafe P s p b
+SafeFor P s b = T (there (view s) (whoAt b)) → (p : ℕ) → NeedsFact P (whoAt b) p → SomeSafe P s p b
 
 -- a and b are not both inside, or one is surely over before the other
 abbrev pub Ordered : List ℕ → (a b : ℕ) → Type 0

@@ -7,7 +7,8 @@ use lib.Dec.{T}
 use lib.ListN.{getD}
 use Rattle.facts.specs.Facts.{has}
 use Rattle.rules.specs.Plans.{Plan, In, Over, interfere, Valid}
-use Rattle.rules.specs.Table.{Problem, InOrder, adds, deletes}
+use Rattle.rules.specs.Table.{Problem}
+use Rattle.rules.specs.Premises.{InOrder, adds, deletes}
 use Rattle.states.specs.State.{Search, Leads}
 
 -- ── places ──
@@ -20,6 +21,7 @@ half T i = getD T i 0 % 2 ^ 32
 abbrev pub wantsOf : List ℕ → ℕ → ℕ
 wantsOf T b = getD T b 0
 
+-- the opening facts
 abbrev pub openingOf : List ℕ → ℕ
 openingOf T = getD T 25 0
 
@@ -27,6 +29,7 @@ openingOf T = getD T 25 0
 abbrev pub addersOf : List ℕ → ℕ → ℕ
 addersOf T p = half T (p + 26)
 
+-- the jobs that delete the fact p
 abbrev pub killersOf : List ℕ → ℕ → ℕ
 killersOf T p = half T (p + 90)
 
@@ -50,9 +53,11 @@ waitOf T a b = half T (25 * a + b + 228)
 abbrev pub ledOf : List ℕ → ℕ → ℕ
 ledOf T a = half T (a + 828)
 
+-- the job count
 abbrev pub countOf : List ℕ → ℕ
 countOf T = half T 226
 
+-- the bound
 abbrev pub boundOf : List ℕ → ℕ
 boundOf T = half T 227
 
@@ -64,14 +69,15 @@ pub record Cols (f : ℕ → Type 0) (w n : ℕ) : Type 0 where
   pub at : (i : ℕ) → i < n → f i → T (has w i)
 
 -- d is a job that deletes p; a is one that adds it
-abbrev pub Deletes : Problem → ℕ → ℕ → Type 0
-Deletes P p d = (d < P .count) × deletes P d p
+abbrev pub Kills : Problem → ℕ → ℕ → Type 0
+Kills P p d = (d < P .count) × deletes P d p
 
+-- a is a job that adds p
 abbrev pub Gives : Problem → ℕ → ℕ → Type 0
 Gives P p a = (a < P .count) × adds P a p
 
 -- in every valid plan with job a: where it is over before a job b, that starts x b or more after a; the bound is x 24 or more after it
-pub record Apart (P : Problem) (a : ℕ) (x : ℕ → ℕ) : Type 0 where
+pub record Spacing (P : Problem) (a : ℕ) (x : ℕ → ℕ) : Type 0 where
   pub starts : (bound : ℕ) (Q : Plan) → Valid P bound Q → In P Q a → (b : ℕ) → In P Q b → Over P Q a b → Q a + x b ≤ Q b
   pub ends : (bound : ℕ) (Q : Plan) → Valid P bound Q → In P Q a → Q a + x 24 ≤ bound
 
@@ -84,12 +90,12 @@ pub record Listed (L : List ℕ) (P : Problem) : Type 0 where
   pub conds : (b : ℕ) → b < 24 → P .conditions b ≡ wantsOf L b
   pub goals : P .goals ≡ wantsOf L 24
   pub adders : (p : ℕ) → p < 64 → Cols (Gives P p) (addersOf L p) 24
-  pub killers : (p : ℕ) → p < 64 → Cols (Deletes P p) (killersOf L p) 24
+  pub killers : (p : ℕ) → p < 64 → Cols (Kills P p) (killersOf L p) 24
   pub steps : (a : ℕ) → a < 24 → P .duration a + P .gap ≡ stepOf L a
   pub clash : (a b : ℕ) → a < 24 → T (has (hitsOf L a) b) → T (interfere P a b)
   pub meets : (a b : ℕ) → a < P .count → b < P .count → T (interfere P a b) → T (has (hitsOf L a) b)
   pub early : (bound : ℕ) (Q : Plan) → Valid P bound Q → (j : ℕ) → In P Q j → estOf L j ≤ Q j
-  pub apart : (a : ℕ) → a < P .count → Apart P a (waitOf L a)
+  pub apart : (a : ℕ) → a < P .count → Spacing P a (waitOf L a)
   pub leads : (a : ℕ) → a < 24 → ledOf L a < 24 → (bound : ℕ) → Leads (record { problem = P; bound = bound }) a (ledOf L a)
   pub gap : P .gap ≡ 0
   pub release : (j : ℕ) → P .release j ≡ 0

@@ -5,13 +5,14 @@ ghost use mathlib.Core.Path.{_≡_};
 ghost use mathlib.Core.Bool.{not, _&&_};
 ghost use Prim.Native.Nat.{_+_, _≤_, _<_};
 ghost use lib.Dec.{eqb, leb, ltb};
-ghost use Rattle.facts.specs.Facts.{has, Word};
+ghost use Rattle.facts.specs.Facts.{has};
+ghost use Rattle.facts.specs.Words.{Word};
 ghost use Rattle.facts.specs.Least.{any};
 ghost use Rattle.rules.specs.Plans.{starts};
-ghost use Rattle.rules.specs.Supports.{blocks, startFits, jobFits};
+ghost use Rattle.rules.specs.Supports.{blocks, startFits, jobFits, wants, consumer, whoseRow};
 ghost use Rattle.tables.specs.Tables.{problem};
-ghost use Rattle.verdict.specs.Steps.{Given, chosen};
-ghost use Rattle.named.specs.Named.{consumer, inRow, wants, RowOf, RowAt};
+ghost use Rattle.verdict.specs.Steps.{Given, startIn};
+ghost use Rattle.named.specs.Named.{consumerOf, RowOf, RowAt};
 
 // Who has the conditions of a row, a job or End: its number, start and finish.
 pub struct Holder {
@@ -35,14 +36,14 @@ fn less(a: u64, b: u64) -> u64
 
 // The job is in and finishes no later than `at`.
 pub fn over_by(start: u16, duration: u16, at: u32) -> bool
-    ensures { λ r. ⌜ r ≡ (chosen start && leb (start + duration) at) ⌝ }
+    ensures { λ r. ⌜ r ≡ (startIn start && leb (start + duration) at) ⌝ }
 {
     start != 65535 && start as u32 + duration as u32 <= at
 }
 
 // The job is in, finishes after `from` and starts before `till`.
 fn in_way(start: u16, duration: u16, from: u32, till: u32) -> bool
-    ensures { λ r. ⌜ r ≡ (chosen start && (ltb from (start + duration) && ltb start till)) ⌝ }
+    ensures { λ r. ⌜ r ≡ (startIn start && (ltb from (start + duration) && ltb start till)) ⌝ }
 {
     if start == 65535 {
         return false;
@@ -65,7 +66,7 @@ fn word_if(first: bool, second: bool, w: u64) -> u64
 // The facts that some job deletes which is not the holder, and neither finishes by `from` nor starts after the holder's finish.
 fn blocked(l: Loaded, q: Ask, s: &[u16], c: Holder, from: u32) -> u64
     requires { ⌜ Given q (now s) ⌝ }
-    ensures { λ r. ⌜ Word (λ p. any (blocks (problem l q) (starts (now (s .entry))) p (consumer c) 0 from) (q .jobs)) r ⌝ }
+    ensures { λ r. ⌜ Word (λ p. any (blocks (problem l q) (starts (now (s .entry))) p (consumerOf c) 0 from) (q .jobs)) r ⌝ }
 {
     let n = q.jobs;
     let mut w = 0u64;
@@ -80,7 +81,7 @@ fn blocked(l: Loaded, q: Ask, s: &[u16], c: Holder, from: u32) -> u64
 // The facts that Start can support for the holder.
 fn start_fits(l: Loaded, q: Ask, s: &[u16], c: Holder) -> u64
     requires { ⌜ Given q (now s) ⌝ }
-    ensures { λ r. ⌜ Word (λ p. startFits (problem l q) (starts (now (s .entry))) p (consumer c)) r ⌝ }
+    ensures { λ r. ⌜ Word (λ p. startFits (problem l q) (starts (now (s .entry))) p (consumerOf c)) r ⌝ }
 {
     less(q.opening, blocked(l, q, s, c, 0))
 }
@@ -88,7 +89,7 @@ fn start_fits(l: Loaded, q: Ask, s: &[u16], c: Holder) -> u64
 // The facts that job a can support for the holder.
 fn job_fits(l: Loaded, q: Ask, s: &[u16], c: Holder, a: usize) -> u64
     requires { ⌜ Given q (now s) × (a < q .jobs) ⌝ }
-    ensures { λ r. ⌜ Word (λ p. jobFits (problem l q) (starts (now (s .entry))) p (consumer c) a) r ⌝ }
+    ensures { λ r. ⌜ Word (λ p. jobFits (problem l q) (starts (now (s .entry))) p (consumerOf c) a) r ⌝ }
 {
     let j = l.jobs[a];
     if over_by(s[a], j.duration, c.at) {
@@ -100,7 +101,7 @@ fn job_fits(l: Loaded, q: Ask, s: &[u16], c: Holder, a: usize) -> u64
 // The conditions by named support: Start first, then each job what is left.
 fn named_row(l: Loaded, q: Ask, s: &[u16], c: Holder, want: u64) -> Row
     requires { ⌜ Given q (now s) ⌝ }
-    ensures { λ r. ⌜ RowOf (problem l q) (starts (now (s .entry))) (consumer c) (has want) r ⌝ }
+    ensures { λ r. ⌜ RowOf (problem l q) (starts (now (s .entry))) (consumerOf c) (has want) r ⌝ }
 {
     let n = q.jobs;
     let start = start_fits(l, q, s, c);
@@ -119,7 +120,7 @@ fn named_row(l: Loaded, q: Ask, s: &[u16], c: Holder, want: u64) -> Row
 
 // Holder b by its start and its length.
 fn holder_at(b: usize, start: u16, duration: u16) -> Holder
-    ensures { λ r. ⌜ consumer r ≡ record { me = b; at = start; till = start + duration; lag = 0 } ⌝ }
+    ensures { λ r. ⌜ consumerOf r ≡ record { me = b; at = start; till = start + duration; lag = 0 } ⌝ }
 {
     Holder {
         me: b,
@@ -131,7 +132,7 @@ fn holder_at(b: usize, start: u16, duration: u16) -> Holder
 // Who has row b: job b, or End after the last job.
 fn holder_of(l: Loaded, q: Ask, s: &[u16], b: usize) -> Holder
     requires { ⌜ Given q (now s) × (b ≤ q .jobs) ⌝ }
-    ensures { λ r. ⌜ consumer r ≡ inRow (eqb b (q .jobs)) (problem l q) (q .bound) (starts (now (s .entry))) b ⌝ }
+    ensures { λ r. ⌜ consumerOf r ≡ consumer (problem l q) (q .bound) (starts (now (s .entry))) (whoseRow (eqb b (q .jobs)) b) ⌝ }
 {
     if b == q.jobs {
         return holder_at(b, q.bound, 0);
@@ -143,7 +144,7 @@ fn holder_of(l: Loaded, q: Ask, s: &[u16], b: usize) -> Holder
 // The conditions of row b; a job that is out has none.
 fn wanted(l: Loaded, q: Ask, s: &[u16], b: usize) -> u64
     requires { ⌜ Given q (now s) × (b ≤ q .jobs) ⌝ }
-    ensures { λ r. ⌜ Word (wants (eqb b (q .jobs)) (problem l q) (starts (now (s .entry))) b) r ⌝ }
+    ensures { λ r. ⌜ Word (wants (problem l q) (starts (now (s .entry))) (whoseRow (eqb b (q .jobs)) b)) r ⌝ }
 {
     if b == q.jobs {
         return q.goals;

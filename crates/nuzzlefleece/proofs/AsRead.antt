@@ -9,11 +9,11 @@ use native.Mathlib.Omega.{arith}
 use lib.ListN.{length, replicate, length-replicate, getD-replicate}
 use lib.Seq.{ext-getD}
 use borrow.Author.Tests.{eq-eqb}
-use Rattle.rules.specs.Refusals.{Verdict}
+use Rattle.refusals.specs.Refusals.{Verdict}
 use Rattle.tables.specs.declared.Loaded.{Loaded}
 use Rattle.tables.specs.declared.Ask.{Ask}
 use Rattle.tables.specs.declared.Answer.{Answer}
-use Rattle.tables.specs.Tables.{noJob, recordAt, jobAt, filled, answer}
+use Rattle.tables.specs.Tables.{noJob, recordAt, jobAt, filled, answerOf}
 use Rattle.tables.proofs.Lent.{length-filled, filled-at, filled-rest}
 use Rattle.jobfile.specs.declared.Read.{Read}
 use Rattle.jobfile.specs.Format.{trailerIn, askIn, recordsIn, actionIn, tableIn}
@@ -54,8 +54,8 @@ module _ (file : List ℕ) (new : List Action) (r : ReadAnswer) (x : Reads file 
       sym (ap (λ (a : Answer). a .number) (reading-says file 255))
       ∙ (sym (ap (λ (m : ℕ). reading file m .answer .number) lent) ∙ (sym (ap (λ (s : ReadAnswer). s .answer .number) (x .says)) ∙ z))
 
-  read : reading file 255 ≡ whole (answer v 0 0) q table
-  read = ap (λ (b : Bool). cond b (whole (answer v 0 0) q table) (nothing (answer v 0 0))) (eq-eqb (v .number) 0 accepts)
+  read : reading file 255 ≡ whole (answerOf v 0 0) q table
+  read = ap (λ (b : Bool). cond b (whole (answerOf v 0 0) q table) (nothing (answerOf v 0 0))) (eq-eqb (v .number) 0 accepts)
 
   few : n ≤ 24
   few = let h : reading file 255 .ask .jobs ≡ n = ap (λ (y : Read). y .ask .jobs) read in omega (arith, h, reading-fits file 255 .0)

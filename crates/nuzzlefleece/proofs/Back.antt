@@ -5,14 +5,15 @@ use mathlib.Core.List.{List}
 use Prim.Native.Nat.{ℕ, _≤_, _<_}
 use native.Mathlib.Omega.{arith}
 use lib.ListN.{length, take, replicate, length-replicate}
-use Rattle.rules.specs.Refusals.{accepted}
+use Rattle.refusals.specs.Refusals.{accepted}
 use Rattle.tables.specs.declared.Loaded.{Loaded}
 use Rattle.tables.specs.declared.Ask.{Ask}
 use Rattle.tables.specs.declared.Answer.{Answer}
-use Rattle.tables.specs.Tables.{noJob, recordAt, jobAt, filled, answer}
+use Rattle.tables.specs.Tables.{noJob, recordAt, jobAt, filled, answerOf}
 use Rattle.tables.proofs.Lent.{filled-at, filled-rest}
 use Rattle.jobfile.specs.declared.Read.{Read}
-use Rattle.jobfile.specs.Calls.{whole as readWhole, reading, Writes, saved, kept}
+use Rattle.jobfile.specs.Calls.{whole as readWhole, reading, Writes}
+use Rattle.jobfile.specs.Saved.{saved, kept}
 use Rattle.jobfile.proofs.Back.{written-back}
 use Rattle.tables.specs.declared.Action.{Action}
 use Rattle.records.specs.Records.{loaded}
@@ -27,7 +28,7 @@ kept-at l n room i h few = filled-at (jobAt l) n (replicate 24 noJob) i noJob h 
 
 -- the reader's lent records `new` after a save of the writer's records ts was read into `old`
 pub record Restored (ts : List Action) (q : Ask) (old new : List Action) (a : ReadAnswer) : Type 0 where
-  pub said : a .answer ≡ answer accepted 0 0
+  pub said : a .answer ≡ answerOf accepted 0 0
   pub numbers : a .ask ≡ saved q
   pub jobs : (i : ℕ) → i < q .jobs → recordAt new i ≡ recordAt ts i
   pub rest : (i : ℕ) → q .jobs ≤ i → recordAt new i ≡ recordAt old i
@@ -47,13 +48,13 @@ restored ts q used buf buf′ r w z old new a lent x = record {
     table : Loaded
     table = kept (loaded ts) (q .jobs) (length old)
 
-    back : reading file (length old) ≡ readWhole (answer accepted 0 0) (saved q) table
+    back : reading file (length old) ≡ readWhole (answerOf accepted 0 0) (saved q) table
     back = written-back (loaded ts) q used (length old) buf buf′ r w z lent
 
     few : q .jobs ≤ 24
     few = let h : reading file (length old) .ask .jobs ≡ q .jobs = ap (λ (y : Read). y .ask .jobs) back in omega (arith, h, reading-fits file (length old) .0)
 
-    says : a ≡ told (readWhole (answer accepted 0 0) (saved q) table)
+    says : a ≡ told (readWhole (answerOf accepted 0 0) (saved q) table)
     says = x .says ∙ ap told back
 
     records : new ≡ filled (jobAt table) (q .jobs) old

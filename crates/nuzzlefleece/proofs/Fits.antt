@@ -10,11 +10,11 @@ use lib.Dec.{T, eqb}
 use lib.ListN.{length}
 use borrow.Author.Tests.{eqb-true}
 use Rattle.facts.proofs.Bools.{at-most}
-use Rattle.rules.specs.Refusals.{Verdict, refuseIf}
+use Rattle.refusals.specs.Refusals.{Verdict, refuseIf}
 use Rattle.tables.specs.declared.Loaded.{Loaded}
 use Rattle.tables.specs.declared.Ask.{Ask}
 use Rattle.tables.specs.declared.Answer.{Answer}
-use Rattle.tables.specs.Tables.{jobAt, filled, answer}
+use Rattle.tables.specs.Tables.{jobAt, filled, answerOf}
 use Rattle.jobfile.specs.Format.{trailerIn, askIn, recordsIn, tableIn}
 use Rattle.jobfile.specs.Calls.{saveChecks, readChecks, whole, nothing, reading}
 use Rattle.tables.proofs.Laws.{accepts}
@@ -56,7 +56,7 @@ either-says : (b : Bool) (a : Answer) (q : Ask) (l : Loaded) → cond b (whole a
 either-says true a q l = refl
 either-says false a q l = refl
 
-pub reading-says : (file : List ℕ) (room : ℕ) → reading file room .answer ≡ answer (readChecks file room) 0 0
+pub reading-says : (file : List ℕ) (room : ℕ) → reading file room .answer ≡ answerOf (readChecks file room) 0 0
 reading-says file room = either-says (eqb (readChecks file room .number) 0) _ _ _
 
 either-old : (b : Bool) (a : Answer) (q : Ask) (l : Loaded) (old : List Action) → (b ≡ true → ⊥) → filled (jobAt (cond b (whole a q l) (nothing a) .table)) (cond b (whole a q l) (nothing a) .ask .jobs) old ≡ old

@@ -9,7 +9,7 @@ ghost use Rattle.planning.specs.Planning.{PlansWithin, BoundsWithin};
 ghost use Rattle.jobfile.specs.Calls.{Writes};
 ghost use Rattle.records.specs.Records.{loaded};
 ghost use Rattle.nuzzlefleece.specs.Files.{told, Reads};
-ghost use Rattle.readings.specs.Marks.{listed};
+ghost use Rattle.readings.specs.Marks.{marksOf};
 ghost use Rattle.readings.specs.Opening.{Opens};
 ghost use Rattle.page.specs.Page.{Pages};
 use jobfile::Read;
@@ -152,7 +152,7 @@ pub extern "C" fn nuzzlefleece_opening_facts(
     count: usize,
     given: u64,
 ) -> Opening
-    ensures { λ a. ⌜ Opens reading (listed (now (channels .entry)) (now (levels .entry)) (now (facts .entry)) count) given a ⌝ }
+    ensures { λ a. ⌜ Opens reading (marksOf (now (channels .entry)) (now (levels .entry)) (now (facts .entry)) count) given a ⌝ }
 {
     readings::opening_facts(reading, channels, levels, facts, count, given)
 }

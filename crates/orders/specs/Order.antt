@@ -9,8 +9,8 @@ use Rattle.states.specs.State.{Search}
 use Rattle.cells.specs.View.{view, Says, Till}
 
 -- the flag says that a and b interfere
-abbrev pub Clashes : ℕ → ℕ → Bool → Search → Type 0
-Clashes a b hit P = T hit → T (interfere (P .problem) a b)
+abbrev pub HitFlag : ℕ → ℕ → Bool → Search → Type 0
+HitFlag a b hit P = T hit → T (interfere (P .problem) a b)
 
 -- job j starts by x
 pub record Tills (s : List ℕ) (j x : ℕ) (r : List ℕ) : Type 0 where

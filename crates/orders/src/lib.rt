@@ -3,9 +3,9 @@ ghost use mathlib.Core.Path.{_≡_};
 ghost use mathlib.Core.Bool.{true};
 ghost use Prim.Native.Nat.{_<_};
 ghost use Rattle.states.specs.State.{Search, Spaced, Dead};
-ghost use Rattle.cells.specs.View.{view, Prunes, Says, Any, From};
+ghost use Rattle.cells.specs.View.{view, Prunes, Says, Always, From};
 ghost use Rattle.lent.specs.Lent.{Lent};
-ghost use Rattle.orders.specs.Order.{Clashes, Tills};
+ghost use Rattle.orders.specs.Order.{HitFlag, Tills};
 use cells::State;
 use lent::Tables;
 
@@ -14,11 +14,11 @@ pub fn from(s: &mut State, j: usize, x: u64)
     requires { ⌜ j < 24 ⌝ }
     ensures { λ _. ⌜ Says (From j x) (now (s .entry)) (now (s .exit)) ⌝ }
 {
-    if cells::wide(cells::hi(s, j)) < x {
+    if jobs::wide(cells::hi(s, j)) < x {
         cells::put_barred(s, j);
         return;
     }
-    if cells::wide(cells::lo(s, j)) < x {
+    if jobs::wide(cells::lo(s, j)) < x {
         cells::put_lo(s, j, x as u32);
     }
 }
@@ -72,7 +72,7 @@ fn far(s: &mut State, a: usize, b: usize, wait: u32)
     requires { ⌜ (a < 24) × (b < 24) ⌝ }
     ensures { λ _. ⌜ Prunes (Spaced a b wait) (now (s .entry)) (now (s .exit)) ⌝ }
 {
-    if cells::wide(cells::hi(s, b)) < cells::sum(cells::lo(s, a), wait) {
+    if jobs::wide(cells::hi(s, b)) < cells::sum(cells::lo(s, a), wait) {
         cells::put_never(s, a, b);
     }
 }
@@ -80,7 +80,7 @@ fn far(s: &mut State, a: usize, b: usize, wait: u32)
 // a over before b: not b before a. Of two that interfere, not a before b: b before a.
 fn orders(s: &mut State, a: usize, b: usize, hit: bool)
     requires { ⌜ (a < 24) × (b < 24) ⌝ }
-    ensures { λ _. ⌜ Prunes (Clashes a b hit) (now (s .entry)) (now (s .exit)) ⌝ }
+    ensures { λ _. ⌜ Prunes (HitFlag a b hit) (now (s .entry)) (now (s .exit)) ⌝ }
 {
     if cells::sure(s, a, b) {
         cells::put_never(s, b, a);
@@ -97,7 +97,7 @@ fn orders(s: &mut State, a: usize, b: usize, hit: bool)
 // Both orders of a pair and one of its jobs inside: the other is out.
 fn clash(s: &mut State, a: usize, b: usize)
     requires { ⌜ (a < 24) × (b < 24) ⌝ }
-    ensures { λ _. ⌜ Prunes Any (now (s .entry)) (now (s .exit)) ⌝ }
+    ensures { λ _. ⌜ Prunes Always (now (s .entry)) (now (s .exit)) ⌝ }
 {
     if !cells::sure(s, a, b) {
         return;
@@ -123,7 +123,7 @@ fn pair(s: &mut State, a: usize, b: usize, t: &Tables)
     push(s, a, b, wait);
     pull(s, a, b, wait);
     far(s, a, b, wait);
-    orders(s, a, b, cells::has(lent::hits(t, a), b));
+    orders(s, a, b, jobs::has(lent::hits(t, a), b));
     clash(s, a, b);
 }
 
@@ -137,11 +137,11 @@ fn strains(s: &State, a: usize, b: usize, wait: u32) -> bool
     if cells::never(s, a, b) {
         return true;
     }
-    let early = cells::wide(cells::lo(s, b)) < cells::sum(cells::lo(s, a), wait);
+    let early = jobs::wide(cells::lo(s, b)) < cells::sum(cells::lo(s, a), wait);
     if early & cells::inside(s, a) {
         return true;
     }
-    let late = cells::wide(cells::hi(s, b)) < cells::sum(cells::hi(s, a), wait);
+    let late = jobs::wide(cells::hi(s, b)) < cells::sum(cells::hi(s, a), wait);
     late & cells::inside(s, b)
 }
 
@@ -154,12 +154,12 @@ fn stirs(s: &State, a: usize, b: usize, t: &Tables) -> bool
         return strains(s, a, b, wait);
     }
     if !cells::never(s, a, b) {
-        return cells::wide(cells::hi(s, b)) < cells::sum(cells::lo(s, a), wait);
+        return jobs::wide(cells::hi(s, b)) < cells::sum(cells::lo(s, a), wait);
     }
     if cells::sure(s, b, a) {
         return false;
     }
-    cells::has(lent::hits(t, a), b)
+    jobs::has(lent::hits(t, a), b)
 }
 
 // The pair a, b, unless the rules tell nothing of it.
@@ -185,8 +185,8 @@ fn pairs_at(s: &mut State, b: usize, t: &Tables)
     }
     let mut w = !cells::outsides(s);
     while w != 0 {
-        pair_at(s, cells::lowest(w), b, t);
-        w = cells::rest(w);
+        pair_at(s, jobs::lowest(w), b, t);
+        w = jobs::rest(w);
     }
 }
 
@@ -202,7 +202,7 @@ pub fn pairs(s: &mut State, t: &Tables)
 // m is inside and over before b: what is over before m is over before b.
 fn through(s: &mut State, m: usize, b: usize)
     requires { ⌜ b < 24 ⌝ }
-    ensures { λ _. ⌜ Prunes Any (now (s .entry)) (now (s .exit)) ⌝ }
+    ensures { λ _. ⌜ Prunes Always (now (s .entry)) (now (s .exit)) ⌝ }
 {
     if 24 <= m {
         return;
@@ -220,19 +220,19 @@ fn through(s: &mut State, m: usize, b: usize)
 // All that is over before b by way of another job.
 fn through_all(s: &mut State, b: usize)
     requires { ⌜ b < 24 ⌝ }
-    ensures { λ _. ⌜ Prunes Any (now (s .entry)) (now (s .exit)) ⌝ }
+    ensures { λ _. ⌜ Prunes Always (now (s .entry)) (now (s .exit)) ⌝ }
 {
     let mut w = cells::insides(s) & cells::row_sure(s, b);
     while w != 0 {
-        through(s, cells::lowest(w), b);
-        w = cells::rest(w);
+        through(s, jobs::lowest(w), b);
+        w = jobs::rest(w);
     }
 }
 
 // A job whose window is empty is out.
 fn shut(s: &mut State, j: usize)
     requires { ⌜ j < 24 ⌝ }
-    ensures { λ _. ⌜ Prunes Any (now (s .entry)) (now (s .exit)) ⌝ }
+    ensures { λ _. ⌜ Prunes Always (now (s .entry)) (now (s .exit)) ⌝ }
 {
     if cells::hi(s, j) < cells::lo(s, j) {
         cells::put_barred(s, j);
@@ -242,7 +242,7 @@ fn shut(s: &mut State, j: usize)
 // Chains and window of a job that is not out.
 fn chain(s: &mut State, b: usize)
     requires { ⌜ b < 24 ⌝ }
-    ensures { λ _. ⌜ Prunes Any (now (s .entry)) (now (s .exit)) ⌝ }
+    ensures { λ _. ⌜ Prunes Always (now (s .entry)) (now (s .exit)) ⌝ }
 {
     if cells::barred(s, b) {
         return;
@@ -253,7 +253,7 @@ fn chain(s: &mut State, b: usize)
 
 // Chains and windows of every job.
 pub fn chains(s: &mut State)
-    ensures { λ _. ⌜ Prunes Any (now (s .entry)) (now (s .exit)) ⌝ }
+    ensures { λ _. ⌜ Prunes Always (now (s .entry)) (now (s .exit)) ⌝ }
 {
     for b in 0..24 {
         chain(s, b);

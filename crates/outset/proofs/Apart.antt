@@ -8,10 +8,11 @@ use native.Mathlib.Omega.{arith}
 use lib.ListN.{getD}
 use lib.Seq.{getD-set-same, getD-set-other}
 use Rattle.facts.proofs.Bools.{below-suc}
-use Rattle.rules.specs.Table.{Problem, InOrder}
+use Rattle.rules.specs.Table.{Problem}
+use Rattle.rules.specs.Premises.{InOrder}
 use Rattle.entries.specs.Entries.{entry}
 use Rattle.cells.specs.View.{Sets}
-use Rattle.lent.specs.Lent.{waitOf, Apart}
+use Rattle.lent.specs.Lent.{waitOf, Spacing}
 use Rattle.outset.specs.Outset.{RowPut, WaitsPut}
 
 module _ (row : List ℕ) (a : ℕ) (L : List ℕ) where
@@ -32,7 +33,7 @@ module _ (row : List ℕ) (a : ℕ) (L : List ℕ) where
       same = rw (d .is) (getD-set-same K (25 * a + n + 228) x 0 (d .room))
 
 -- the same waits in another form
-apart-as : {P : Problem} {a : ℕ} {x y : ℕ → ℕ} → P .count ≤ 24 → ((b : ℕ) → b ≤ 24 → y b ≡ x b) → Apart P a x → Apart P a y
+apart-as : {P : Problem} {a : ℕ} {x y : ℕ → ℕ} → P .count ≤ 24 → ((b : ℕ) → b ≤ 24 → y b ≡ x b) → Spacing P a x → Spacing P a y
 apart-as few e p = record {
   starts = λ bound Q v i b k o. omega (arith, e b (omega (arith, k .below)), p .starts bound Q v i b k o);
   ends = λ bound Q v i. omega (arith, e 24 (omega arith), p .ends bound Q v i);
@@ -42,10 +43,10 @@ module _ (P : Problem) (few : P .count ≤ 24) (L : List ℕ) where
   pub waits-none : WaitsPut P 0 L L
   waits-none = record { apart = λ ok a l. absurd (omega arith); old = λ i l. refl }
 
-  pub waits-next : {K M row : List ℕ} {n : ℕ} → WaitsPut P n L K → (InOrder P → Apart P n (entry row)) → RowPut row n 25 K M → WaitsPut P (n + 1) L M
+  pub waits-next : {K M row : List ℕ} {n : ℕ} → WaitsPut P n L K → (InOrder P → Spacing P n (entry row)) → RowPut row n 25 K M → WaitsPut P (n + 1) L M
   waits-next {K} {M} {row} {n} f p r = record {
     apart = λ ok a l. ⊎-elim (λ m. apart-as few (λ b h. ap (λ (y : ℕ). y % 2 ^ 32) (r .old (25 * a + b + 228) (omega arith))) (f .apart ok a m))
-        (λ m. subst (λ (c : ℕ). Apart P c (waitOf M c)) (sym m) (apart-as few (λ b h. r .new b (omega arith)) (p ok))) (below-suc a n (omega arith));
+        (λ m. subst (λ (c : ℕ). Spacing P c (waitOf M c)) (sym m) (apart-as few (λ b h. r .new b (omega arith)) (p ok))) (below-suc a n (omega arith));
     old = λ i l. r .old i (omega arith) ∙ f .old i l;
   }
 

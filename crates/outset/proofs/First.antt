@@ -8,13 +8,13 @@ use lib.Dec.{T}
 use Rattle.facts.specs.Facts.{has}
 use Rattle.facts.proofs.Sets.{has-zero}
 use Rattle.rules.specs.Plans.{Plan}
-use Rattle.states.specs.State.{Search, Has, Good, Fits}
+use Rattle.states.specs.State.{Search, HasJob, Good, Fits}
 use Rattle.cells.specs.View.{view, Blank}
 use Rattle.lent.specs.Lent.{Lent, waitOf, boundOf}
-use Rattle.outset.specs.Outset.{Planned}
+use Rattle.outset.specs.Outset.{ListedPlan}
 
 -- from a job of a valid plan on there is time in the bound
-pub in-bound : {L : List ℕ} {P : Search} {Q : Plan} {j rest bound : ℕ} → Planned L P Q → Has P Q j → rest ≡ waitOf L j 24 → bound ≡ boundOf L → Q j + rest ≤ bound
+pub in-bound : {L : List ℕ} {P : Search} {Q : Plan} {j rest bound : ℕ} → ListedPlan L P Q → HasJob P Q j → rest ≡ waitOf L j 24 → bound ≡ boundOf L → Q j + rest ≤ bound
 in-bound {P = P} {Q} {j} e k s b = omega (arith, e .0 .listed .apart j (k .below) .ends (P .bound) Q (e .1) k, e .0 .bound)
 
 pub blank-fits : {L : List ℕ} {P : Search} {Q : Plan} (s : List ℕ) → Lent L P → Blank s 24 → Good P Q → Fits P Q (view s)

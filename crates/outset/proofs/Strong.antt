@@ -7,8 +7,9 @@ use mathlib.Core.List.{List}
 use Prim.Native.Nat.{ℕ, _+_, _≤_, _<_}
 use native.Mathlib.Omega.{arith}
 use lib.ListN.{getD}
-use Rattle.facts.specs.Facts.{Decides}
-use Rattle.rules.specs.Table.{Problem, InOrder, plain}
+use Rattle.facts.specs.Words.{Decides}
+use Rattle.rules.specs.Table.{Problem, plain}
+use Rattle.rules.specs.Premises.{InOrder}
 use Rattle.rules.specs.Plans.{Plan, In, Valid}
 use Rattle.rules.specs.Order.{First, NoPlan}
 use Rattle.rules.specs.Estimates.{Estimates}
@@ -25,7 +26,7 @@ use Rattle.reach.proofs.EDeletes.{fit}
 use Rattle.reach.proofs.Alike.{closed-alike}
 use Rattle.reach.proofs.Words.{edone-rest, edone-words}
 use Rattle.states.specs.State.{Leads}
-use Rattle.lent.specs.Lent.{Cols, Apart, Listed, hitsOf, estOf, waitOf, ledOf}
+use Rattle.lent.specs.Lent.{Cols, Spacing, Listed, hitsOf, estOf, waitOf, ledOf}
 use Rattle.turns.specs.Checked.{Leader}
 use Rattle.outset.specs.Outset.{Hit, Stands, AllWait, Lists, WaitsPut, LeadsPut, SetsOut}
 use Rattle.outset.proofs.Apart.{waits-old}
@@ -40,7 +41,7 @@ module _ (k : Loaded) (q : Ask) (few : q .jobs ≤ 24) (ok : InOrder (problem k 
   begins : (i : ℕ) → i < 24 → estOf L i ≡ getD est i 0
   begins i l = rw (add-sub-cancel i 202) at (t (i + 202) (omega arith) .there (omega arith) .there (omega arith) .there (omega arith) .there (omega arith) .there (omega arith) .there (omega arith) .there (omega arith) .here (omega arith))
 
-  pub listed-of : ((bound : ℕ) (Q : Plan) → Valid (problem k q) bound Q → (i : ℕ) → In (problem k q) Q i → getD est i 0 ≤ Q i) → ((a : ℕ) → a < q .jobs → Apart (problem k q) a (waitOf L a)) → ((a : ℕ) → a < 24 → ledOf L a < 24 → (bound : ℕ) → Leads (record { problem = problem k q; bound = bound }) a (ledOf L a)) → Listed L (problem k q)
+  pub listed-of : ((bound : ℕ) (Q : Plan) → Valid (problem k q) bound Q → (i : ℕ) → In (problem k q) Q i → getD est i 0 ≤ Q i) → ((a : ℕ) → a < q .jobs → Spacing (problem k q) a (waitOf L a)) → ((a : ℕ) → a < 24 → ledOf L a < 24 → (bound : ℕ) → Leads (record { problem = problem k q; bound = bound }) a (ledOf L a)) → Listed L (problem k q)
   listed-of early apart leads = record {
     wf = ok;
     few = few;

@@ -8,10 +8,10 @@ use mir.Syntax.{w16}
 use mir.Val.{Fits}
 use native.Mathlib.Omega.{arith}
 use lib.Dec.{T}
-use Rattle.facts.specs.Facts.{Decides}
+use Rattle.facts.specs.Words.{Decides}
 use Rattle.facts.proofs.Bools.{below-suc, says-no, says-test, passes, decides-true}
 use Rattle.facts.proofs.Sets.{has-zero, below-pow}
-use Rattle.cells.specs.View.{Noted}
+use Rattle.jobs.specs.Jobs.{Noted}
 use Rattle.lent.specs.Lent.{Cols}
 use Rattle.outset.specs.Outset.{Upto}
 

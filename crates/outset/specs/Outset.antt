@@ -8,7 +8,8 @@ use Prim.Native.Nat.{ℕ, _+_, _*_, _-_, _%_, _≤_, _<_, _^_}
 use lib.Dec.{T}
 use lib.ListN.{getD}
 use Rattle.facts.specs.Facts.{has}
-use Rattle.rules.specs.Table.{Problem, InOrder}
+use Rattle.rules.specs.Table.{Problem}
+use Rattle.rules.specs.Premises.{InOrder}
 use Rattle.rules.specs.Plans.{Plan, interfere, Valid}
 use Rattle.rules.specs.Order.{NoPlan}
 use Rattle.tables.specs.Tables.{jobAt, problem}
@@ -19,7 +20,7 @@ use Rattle.entries.specs.Entries.{entry}
 use Rattle.reach.specs.Rows.{FitIn}
 use Rattle.states.specs.State.{Search, Good, Fits}
 use Rattle.cells.specs.View.{view}
-use Rattle.lent.specs.Lent.{Cols, waitOf, ledOf, Apart, Listed, Lent}
+use Rattle.lent.specs.Lent.{Cols, waitOf, ledOf, Spacing, Listed, Lent}
 use Rattle.turns.specs.Checked.{Leader}
 use Rattle.outset.specs.declared.Outset.{Outset}
 
@@ -68,7 +69,7 @@ pub record RowPut (row : List ℕ) (a n : ℕ) (L K : List ℕ) : Type 0 where
 
 -- the waits of the first n jobs are so in every valid plan, and the words before all waits are as they were
 pub record WaitsPut (P : Problem) (n : ℕ) (L K : List ℕ) : Type 0 where
-  pub apart : InOrder P → (a : ℕ) → a < n → Apart P a (waitOf K a)
+  pub apart : InOrder P → (a : ℕ) → a < n → Spacing P a (waitOf K a)
   pub old : (i : ℕ) → i < 228 → getD K i 0 ≡ getD L i 0
 
 -- each of the first n jobs leads the job that the table has for it, if that is one; the words before these are as they were
@@ -94,8 +95,8 @@ abbrev pub FitsAll : Search → List ℕ → Type 0
 FitsAll P s = (Q : Plan) → Good P Q → Fits P Q (view s)
 
 -- a valid plan of the problem that is listed
-abbrev pub Planned : List ℕ → Search → Plan → Type 0
-Planned L P Q = Lent L P × Good P Q
+abbrev pub ListedPlan : List ℕ → Search → Plan → Type 0
+ListedPlan L P Q = Lent L P × Good P Q
 
 -- what is searched for the table l: lists of a problem that has the same valid plans; no plan where the goals are not pairwise reachable
 pub record SetsOut (l : Loaded) (q : Ask) (r : Outset) : Type 0 where

@@ -1,17 +1,17 @@
 // What a table sets out to the search: the lists it reads, and the state it begins from.
 ghost use mathlib.Core.Path.{_≡_};
 ghost use Prim.Native.Nat.{_≤_, _<_};
-ghost use Rattle.facts.specs.Facts.{Decides};
-ghost use Rattle.rules.specs.Table.{InOrder};
+ghost use Rattle.facts.specs.Words.{Decides};
+ghost use Rattle.rules.specs.Premises.{InOrder};
 ghost use Rattle.tables.specs.Tables.{problem};
 ghost use Rattle.states.specs.State.{Search};
 ghost use Rattle.cells.specs.View.{Says};
 ghost use Rattle.lent.specs.Lent.{Cols, Lent};
 ghost use Rattle.turns.specs.Checked.{Follower};
-ghost use Rattle.outset.specs.Outset.{effectOf, Among, Hit, Stands, Lists, RowPut, WaitsPut, LeadsPut, Waits, AllWait, FitsAll, Planned, SetsOut};
+ghost use Rattle.outset.specs.Outset.{effectOf, Among, Hit, Stands, Lists, RowPut, WaitsPut, LeadsPut, Waits, AllWait, FitsAll, ListedPlan, SetsOut};
 use cells::State;
 use lent::Tables;
-use reach::Pairs;
+use reach::PairRows;
 use tables::Action;
 use tables::Ask;
 use tables::Loaded;
@@ -51,7 +51,7 @@ fn jobs_with(l: Loaded, q: Ask, adds: bool, p: usize) -> u32
     let mut w: u32 = 0;
     for j in 0..24 {
         let hit = job_has(l, q, adds, j, p);
-        w = cells::with_if(w, j, hit);
+        w = jobs::with_if(w, j, hit);
     }
     w
 }
@@ -75,7 +75,7 @@ fn hits_of(l: Loaded, q: Ask, a: usize) -> u32
     let mut w: u32 = 0;
     for b in 0..24 {
         let hit = job_hits(l, q, a, b);
-        w = cells::with_if(w, b, hit);
+        w = jobs::with_if(w, b, hit);
     }
     w
 }
@@ -170,7 +170,7 @@ fn put_leads(t: &mut Tables, l: Loaded, q: Ask)
 // Job j from its estimate to the bound less the time that the plan lasts from there, or out.
 fn root_job(s: &mut State, j: usize, t: &Tables)
     requires { ⌜ j < 24 ⌝ }
-    ensures { λ _. ⌜ Says (Planned (now (t .entry))) (now (s .entry)) (now (s .exit)) ⌝ }
+    ensures { λ _. ⌜ Says (ListedPlan (now (t .entry))) (now (s .entry)) (now (s .exit)) ⌝ }
 {
     if lent::count(t) <= j {
         cells::put_barred(s, j);
@@ -183,7 +183,7 @@ fn root_job(s: &mut State, j: usize, t: &Tables)
         return;
     }
     orders::till(s, j, bound - rest);
-    orders::from(s, j, cells::wide(lent::est(t, j)));
+    orders::from(s, j, jobs::wide(lent::est(t, j)));
 }
 
 // The state that every valid plan within the bound fits.
@@ -198,7 +198,7 @@ pub fn root(t: &Tables) -> State
 }
 
 // The estimate of a job, or never where its conditions are not pairwise reachable.
-fn waits(s: Pairs, c: u64, est: u16) -> u16
+fn waits(s: PairRows, c: u64, est: u16) -> u16
     ensures { λ r. ⌜ Waits (s .rows) c est r ⌝ }
 {
     if reach::fits(s, c) {
@@ -208,7 +208,7 @@ fn waits(s: Pairs, c: u64, est: u16) -> u16
 }
 
 // The same for all jobs.
-fn all_wait(s: Pairs, l: Loaded, est: [u16; 24]) -> [u16; 24]
+fn all_wait(s: PairRows, l: Loaded, est: [u16; 24]) -> [u16; 24]
     ensures { λ r. ⌜ AllWait (s .rows) l est r 24 ⌝ }
 {
     let mut t = [0u16; 24];

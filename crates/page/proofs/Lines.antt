@@ -11,8 +11,9 @@ use lib.Dec.{eqb, leb}
 use lib.ListN.{length, length-append}
 use Rattle.rules.specs.Table.{Problem}
 use Rattle.rules.specs.Plans.{Plan, finish}
-use Rattle.rules.specs.Pairs.{inOrder}
-use Rattle.rules.proofs.Sums.{sum, sum-le}
+use Rattle.rules.specs.Pairs.{joined}
+use Rattle.rules.proofs.Sums.{sum-le}
+use Rattle.rules.specs.Sums.{sum}
 use Rattle.bindings.proofs.Count.{sum-add, sum-of, length-in-order}
 use Rattle.page.specs.Page.{textIf, digit, decimal, numberThen, jobLine, jobsAt}
 use Rattle.page.proofs.Laws.{text-no}
@@ -69,7 +70,7 @@ unfolding sum
 swapped g zero n = omega (arith, sum-of 0 n)
 swapped g (suc k) n = omega (arith, swapped g k n, sum-add (g k) (λ j. sum (λ t. g t j) k) n)
 
-pub jobs-fit : (P : Problem) (s : Plan) (n : ℕ) → length (inOrder (jobsAt P s) n) ≤ 18 * P .count
+pub jobs-fit : (P : Problem) (s : Plan) (n : ℕ) → length (joined (jobsAt P s) n) ≤ 18 * P .count
 jobs-fit P s n =
     let g : ℕ → ℕ → ℕ = λ t j. length (textIf (eqb (s j) t) (jobLine (s j) (finish P s j) j)) in
     omega (

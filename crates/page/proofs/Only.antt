@@ -7,15 +7,15 @@ use native.Mathlib.Decide.{ℕ-discrete, decLt}
 use native.Mathlib.Omega.{arith}
 use lib.Dec.{ltb, lt→ltb}
 use lib.ListN.{length, replicate}
-use Rattle.rules.specs.Refusals.{Verdict, accepted, refused}
+use Rattle.refusals.specs.Refusals.{Verdict, accepted, refused}
 use Rattle.rules.specs.Plans.{starts}
-use Rattle.rules.proofs.Refused.{if-hit}
+use Rattle.refusals.proofs.Refused.{if-hit}
 use Rattle.tables.specs.declared.Loaded.{Loaded}
 use Rattle.tables.specs.declared.Ask.{Ask}
 use Rattle.tables.specs.declared.Answer.{Answer}
-use Rattle.tables.specs.Tables.{problem, answer, changed}
+use Rattle.tables.specs.Tables.{problem, answerOf, changed}
 use Rattle.planning.proofs.Only.{least-bound-only}
-use Rattle.bytes_le.specs.Little.{over}
+use Rattle.bytes_le.specs.Little.{atFront}
 use Rattle.jobfile.specs.Calls.{reading}
 use Rattle.page.specs.Page.{planText, said, Shows, Prints, roomCheck, Pages}
 use Rattle.page.proofs.Pages.{said-any}
@@ -38,11 +38,11 @@ page-only file old new new′ r r′ x y = go (decLt (length old) 8192)
     go : Dec (length old < 8192) → (r ≡ r′) × (new ≡ new′)
     go (yes l) =
         let v : roomCheck (length old) ≡ refused 3 0 = if-hit (ltb (length old) 8192) 3 0 accepted (lt→ltb (length old) 8192 l) in (
-          x .says ∙ ap (λ (w : Verdict). answer w (length (x .text)) 0) v ∙ sym (y .says ∙ ap (λ (w : Verdict). answer w (length (y .text)) 0) v),
-          x .bytes ∙ ap (λ (w : Verdict). changed w (over (x .text) old) old) v ∙ sym (y .bytes ∙ ap (λ (w : Verdict). changed w (over (y .text) old) old) v),
+          x .says ∙ ap (λ (w : Verdict). answerOf w (length (x .text)) 0) v ∙ sym (y .says ∙ ap (λ (w : Verdict). answerOf w (length (y .text)) 0) v),
+          x .bytes ∙ ap (λ (w : Verdict). changed w (atFront (x .text) old) old) v ∙ sym (y .bytes ∙ ap (λ (w : Verdict). changed w (atFront (y .text) old) old) v),
         )
     go (no n) =
         let e = prints-only file (x .text) (y .text) (x .prints (omega arith)) (y .prints (omega arith)) in (
-          x .says ∙ ap (λ (t : List ℕ). answer (roomCheck (length old)) (length t) 0) e ∙ sym (y .says),
-          x .bytes ∙ ap (λ (t : List ℕ). changed (roomCheck (length old)) (over t old) old) e ∙ sym (y .bytes),
+          x .says ∙ ap (λ (t : List ℕ). answerOf (roomCheck (length old)) (length t) 0) e ∙ sym (y .says),
+          x .bytes ∙ ap (λ (t : List ℕ). changed (roomCheck (length old)) (atFront t old) old) e ∙ sym (y .bytes),
         )

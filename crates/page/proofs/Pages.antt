@@ -8,30 +8,30 @@ use borrow.Author.Tests.{eq-eqb, ne-eqb}
 use lib.Dec.{ltb, ltb→lt, lt→ltb}
 use lib.ListN.{length, getD, replicate}
 use Rattle.facts.proofs.Bools.{at-most}
-use Rattle.rules.specs.Refusals.{Verdict, accepted, refused}
-use Rattle.rules.specs.Table.{InOrder}
+use Rattle.refusals.specs.Refusals.{Verdict, accepted, refused}
+use Rattle.rules.specs.Premises.{InOrder}
 use Rattle.rules.specs.Plans.{starts}
-use Rattle.rules.specs.Pairs.{inOrder}
-use Rattle.rules.proofs.Refused.{if-hit, if-pass}
+use Rattle.rules.specs.Pairs.{joined}
+use Rattle.refusals.proofs.Refused.{if-hit, if-pass}
 use Rattle.tables.specs.declared.Loaded.{Loaded}
 use Rattle.tables.specs.declared.Ask.{Ask}
 use Rattle.tables.specs.declared.Answer.{Answer}
-use Rattle.tables.specs.Tables.{problem, answer, changed}
+use Rattle.tables.specs.Tables.{problem, answerOf, changed}
 use Rattle.tables.proofs.Lent.{filled-at}
 use Rattle.tables.proofs.Calls.{cleared}
 use Rattle.verdict.specs.Steps.{Given}
 use Rattle.bindings.specs.Bindings.{written}
 use Rattle.planning.specs.Planning.{BoundsWithin}
 use Rattle.planning.proofs.Found.{bound-found}
-use Rattle.bytes_le.specs.Little.{over}
+use Rattle.bytes_le.specs.Little.{atFront}
 use Rattle.jobfile.specs.Calls.{reading}
 use Rattle.page.specs.Page.{refusedLine, pairLine, pairLines, planText, said, Shows, Prints, roomCheck, Pages}
 use Rattle.page.specs.Lays.{Lays, LaysSome}
 
 -- ── pairs ──
 
-in-order-same : (f g : ℕ → List ℕ) (n : ℕ) → ((i : ℕ) → i < n → f i ≡ g i) → inOrder f n ≡ inOrder g n
-unfolding inOrder
+in-order-same : (f g : ℕ → List ℕ) (n : ℕ) → ((i : ℕ) → i < n → f i ≡ g i) → joined f n ≡ joined g n
+unfolding joined
 in-order-same f g zero h = refl
 in-order-same f g (suc k) h = ap₂ (λ (x y : List ℕ). x ++ y) (in-order-same f g k (λ i l. h i (omega arith))) (h k (omega arith))
 
@@ -78,23 +78,23 @@ module _ (l : Loaded) (q : Ask) (a : Answer) (ys : List ℕ) (b : BoundsWithin l
 
 module _ (file old : List ℕ) where
   -- the buffer is too short
-  pub pages-short : {r : Answer} → length old < 8192 → r ≡ answer (refused 3 0) 0 0 → Pages file old old r
+  pub pages-short : {r : Answer} → length old < 8192 → r ≡ answerOf (refused 3 0) 0 0 → Pages file old old r
   pages-short {r} l e =
       let v : roomCheck (length old) ≡ refused 3 0 = if-hit (ltb (length old) 8192) 3 0 accepted (lt→ltb (length old) 8192 l) in
-      record { text = []; prints = λ m. absurd (omega arith); says = e ∙ ap (λ (x : Verdict). answer x 0 0) (sym v); bytes = ap (λ (x : Verdict). changed x old old) (sym v) }
+      record { text = []; prints = λ m. absurd (omega arith); says = e ∙ ap (λ (x : Verdict). answerOf x 0 0) (sym v); bytes = ap (λ (x : Verdict). changed x old old) (sym v) }
 
   long : 8192 ≤ length old → roomCheck (length old) ≡ accepted
   long m = if-pass (ltb (length old) 8192) 3 0 accepted (λ x. omega (arith, ltb→lt (length old) 8192 x))
 
-  module _ (m : 8192 ≤ length old) {new : List ℕ} {n : ℕ} {r : Answer} (e : r ≡ answer accepted n 0) where
+  module _ (m : 8192 ≤ length old) {new : List ℕ} {n : ℕ} {r : Answer} (e : r ≡ answerOf accepted n 0) where
     all : (text : List ℕ) → Prints file text → Lays 8192 text 0 old new n → Pages file old new r
     all text p y =
         let k : n ≡ length text = omega (arith, y .next) in
         record {
           text = text;
           prints = λ x. p;
-          says = e ∙ ap₂ (λ (x : Verdict) (i : ℕ). answer x i 0) (sym (long m)) k;
-          bytes = y .bytes ∙ ap (λ (x : Verdict). changed x (over text old) old) (sym (long m));
+          says = e ∙ ap₂ (λ (x : Verdict) (i : ℕ). answerOf x i 0) (sym (long m)) k;
+          bytes = y .bytes ∙ ap (λ (x : Verdict). changed x (atFront text old) old) (sym (long m));
         }
 
     -- the file is refused

@@ -6,17 +6,18 @@ use mathlib.Core.List.{List, [], _∷_, _++_}
 use Prim.Native.Nat.{ℕ, _+_, _*_, _/_, _%_, _≤_}
 use lib.Dec.{eqb, leb, ltb}
 use lib.ListN.{length, getD, replicate}
-use Rattle.rules.specs.Refusals.{Verdict, accepted, refuseIf}
+use Rattle.refusals.specs.Refusals.{Verdict, accepted, refuseIf}
 use Rattle.rules.specs.Table.{Problem}
 use Rattle.rules.specs.Plans.{Plan, starts, finish}
-use Rattle.rules.specs.Pairs.{inOrder, pairBytes}
+use Rattle.rules.specs.Pairs.{joined, pairBytes}
 use Rattle.tables.specs.declared.Loaded.{Loaded}
 use Rattle.tables.specs.declared.Ask.{Ask}
 use Rattle.tables.specs.declared.Answer.{Answer}
-use Rattle.tables.specs.Tables.{problem, answer, changed}
+use Rattle.tables.specs.Tables.{problem, answerOf, changed}
 use Rattle.planning.specs.Planning.{BoundsWithin}
-use Rattle.bytes_le.specs.Little.{over}
+use Rattle.bytes_le.specs.Little.{atFront}
 use Rattle.jobfile.specs.Calls.{reading}
+use Rattle.page.specs.Letters.{letters}
 
 -- ── numbers ──
 
@@ -41,11 +42,11 @@ numberThen n c = decimal n ++ (c ∷ [])
 
 -- `refused`, number and place in one line
 abbrev pub refusedLine : (number place : ℕ) → List ℕ
-refusedLine n k = (114 ∷ 101 ∷ 102 ∷ 117 ∷ 115 ∷ 101 ∷ 100 ∷ 32 ∷ []) ++ (numberThen n 32 ++ numberThen k 10)
+refusedLine n k = letters "refused " ++ (numberThen n 32 ++ numberThen k 10)
 
 -- `least` and the least bound
 abbrev pub leastLine : ℕ → List ℕ
-leastLine b = (108 ∷ 101 ∷ 97 ∷ 115 ∷ 116 ∷ 32 ∷ []) ++ numberThen b 10
+leastLine b = letters "least " ++ numberThen b 10
 
 -- start, finish and number of a job
 abbrev pub jobLine : (start end job : ℕ) → List ℕ
@@ -53,19 +54,19 @@ jobLine t e j = numberThen t 32 ++ (numberThen e 32 ++ numberThen j 10)
 
 -- the jobs that start at t, by number
 abbrev pub jobsAt : Problem → Plan → (t : ℕ) → List ℕ
-jobsAt P s t = inOrder (λ j. textIf (eqb (s j) t) (jobLine (s j) (finish P s j) j)) (P .count)
+jobsAt P s t = joined (λ j. textIf (eqb (s j) t) (jobLine (s j) (finish P s j) j)) (P .count)
 
 -- the plan's jobs by start, then number: those that start at 0, at 1, and so on up to the bound
 abbrev pub jobLines : Problem → Plan → (bound : ℕ) → List ℕ
-jobLines P s b = inOrder (jobsAt P s) (b + 1)
+jobLines P s b = joined (jobsAt P s) (b + 1)
 
 -- `before` between the two jobs of a pair
 abbrev pub pairLine : (a b : ℕ) → List ℕ
-pairLine a b = decimal a ++ ((32 ∷ 98 ∷ 101 ∷ 102 ∷ 111 ∷ 114 ∷ 101 ∷ 32 ∷ []) ++ numberThen b 10)
+pairLine a b = decimal a ++ (letters " before " ++ numberThen b 10)
 
 -- a line for each of the first n pairs, of two bytes each
 abbrev pub pairLines : List ℕ → ℕ → List ℕ
-pairLines bytes n = inOrder (λ i. pairLine (getD bytes (2 * i) 0) (getD bytes (2 * i + 1) 0)) n
+pairLines bytes n = joined (λ i. pairLine (getD bytes (2 * i) 0) (getD bytes (2 * i + 1) 0)) n
 
 -- ── the whole ──
 
@@ -98,5 +99,5 @@ roomCheck room = refuseIf (ltb room 8192) 3 0 accepted
 pub record Pages (file old new : List ℕ) (r : Answer) : Type 0 where
   pub text : List ℕ
   pub prints : 8192 ≤ length old → Prints file text
-  pub says : r ≡ answer (roomCheck (length old)) (length text) 0
-  pub bytes : new ≡ changed (roomCheck (length old)) (over text old) old
+  pub says : r ≡ answerOf (roomCheck (length old)) (length text) 0
+  pub bytes : new ≡ changed (roomCheck (length old)) (atFront text old) old

@@ -6,7 +6,7 @@ ghost use lib.Dec.{eqb};
 ghost use lib.ListN.{length, getD};
 ghost use Rattle.rules.specs.Plans.{starts, finish};
 ghost use Rattle.rules.specs.Pairs.{pairBytes};
-ghost use Rattle.rules.specs.Table.{InOrder};
+ghost use Rattle.rules.specs.Premises.{InOrder};
 ghost use Rattle.tables.specs.Tables.{jobAt, problem};
 ghost use Rattle.verdict.specs.Steps.{Given};
 ghost use Rattle.page.specs.Page.{digit, decimal, numberThen, refusedLine, leastLine, jobLine, textIf, jobsAt, jobLines, pairLine, pairLines, planText, Shows, Pages};

@@ -6,7 +6,7 @@ ghost use Rattle.cells.specs.View.{view, Prunes};
 ghost use Rattle.lent.specs.Lent.{Lent, countOf};
 ghost use Rattle.leaves.specs.Leaf.{planOf};
 ghost use Rattle.search.specs.Search.{Some};
-ghost use Rattle.planner.specs.Planner.{Begins, Tells, Lacks, Earlier, Lowered, LowerOk, Fixed, FirstOf};
+ghost use Rattle.planner.specs.Planner.{BeginsSo, Tells, Without, Earlier, Lowered, LowerOk, Fixed, FirstPlanIs};
 use cells::State;
 use lent::Tables;
 
@@ -21,7 +21,7 @@ fn start_of(out: &[u16; 24], k: usize) -> u16
 // A plan without job k; none where it is known to be in.
 fn try_without(base: &State, k: usize, t: &Tables, out: &mut [u16; 24]) -> bool
     requires { ⌜ (k < 24) × Some (Lent (now t)) ⌝ }
-    ensures { λ r. ⌜ Tells (Lent (now (t .entry))) (now (base .entry)) (Lacks k) (now (out .entry)) (now (out .exit)) r ⌝ }
+    ensures { λ r. ⌜ Tells (Lent (now (t .entry))) (now (base .entry)) (Without k) (now (out .entry)) (now (out .exit)) r ⌝ }
 {
     if cells::inside(base, k) {
         return false;
@@ -81,8 +81,8 @@ fn sharpen(base: &mut State, k: usize, t: &Tables, x: u32)
 
 // Job k is settled.
 fn settle_job(base: &mut State, k: usize, t: &Tables, out: &mut [u16; 24])
-    requires { ⌜ Begins (Lent (now t)) k (now base) (now out) × (k < 24) × (k < countOf (now t)) × Some (Lent (now t)) ⌝ }
-    ensures { λ _. ⌜ Begins (Lent (now (t .entry))) (k + 1) (now (base .exit)) (now (out .exit)) ⌝ }
+    requires { ⌜ BeginsSo (Lent (now t)) k (now base) (now out) × (k < 24) × (k < countOf (now t)) × Some (Lent (now t)) ⌝ }
+    ensures { λ _. ⌜ BeginsSo (Lent (now (t .entry))) (k + 1) (now (base .exit)) (now (out .exit)) ⌝ }
 {
     let x = start_of(out, k);
     if x == 65535 {
@@ -100,8 +100,8 @@ fn settle_job(base: &mut State, k: usize, t: &Tables, out: &mut [u16; 24])
 
 // The first plan, from a state that it fits and some plan.
 pub fn first(root: &mut State, t: &Tables, out: &mut [u16; 24])
-    requires { ⌜ Begins (Lent (now t)) 0 (now root) (now out) × Some (Lent (now t)) ⌝ }
-    ensures { λ _. ⌜ FirstOf (Lent (now (t .entry))) (now (out .exit)) ⌝ }
+    requires { ⌜ BeginsSo (Lent (now t)) 0 (now root) (now out) × Some (Lent (now t)) ⌝ }
+    ensures { λ _. ⌜ FirstPlanIs (Lent (now (t .entry))) (now (out .exit)) ⌝ }
 {
     let n = lent::count(t);
     for k in 0..n {

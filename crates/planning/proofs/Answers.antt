@@ -9,16 +9,17 @@ use native.Mathlib.Omega.{arith}
 use lib.Dec.{ltb}
 use lib.ListN.{length}
 use Rattle.facts.proofs.Lists.{getD-any}
-use Rattle.rules.specs.Refusals.{accepted, refused}
-use Rattle.rules.specs.Table.{InOrder}
+use Rattle.refusals.specs.Refusals.{accepted, refused}
+use Rattle.rules.specs.Premises.{InOrder}
 use Rattle.rules.specs.Plans.{Plan}
 use Rattle.rules.specs.Order.{First, LeastBound, NoPlan}
-use Rattle.rules.proofs.Sums.{sum}
+use Rattle.rules.specs.Sums.{sum}
 use Rattle.rules.proofs.Enough.{enough, enough-first}
 use Rattle.tables.specs.declared.Loaded.{Loaded}
 use Rattle.tables.specs.declared.Ask.{Ask}
 use Rattle.tables.specs.declared.Answer.{Answer}
-use Rattle.tables.specs.Tables.{jobAt, problem, answer, filled, Judges, Cleared}
+use Rattle.tables.specs.Tables.{jobAt, problem, answerOf, filled}
+use Rattle.tables.specs.Steps.{Judges, Cleared}
 use Rattle.tables.proofs.Lent.{filled-same}
 use Rattle.tables.proofs.Calls.{call-checks}
 use Rattle.tables.proofs.Fills.{fills-fault, fills-refused, fills-behind}
@@ -57,7 +58,7 @@ module _ (l : Loaded) (q : Ask) (old : List ℕ) {f : Answer}
   pub plans-refused : (f .number ≡ 0 → ⊥) → PlansWithin l q old old f
   plans-refused n = fills-fault (call-checks (ltb (length old) (q .jobs)) (q .bound) l q) _ 0 (q .jobs) old (j .says) refl n
 
-  pub bounds-refused : {r : Answer} → (f .number ≡ 0 → ⊥) → r ≡ answer (refused (f .number) (f .place)) 0 65535 → BoundsWithin l q old old r
+  pub bounds-refused : {r : Answer} → (f .number ≡ 0 → ⊥) → r ≡ answerOf (refused (f .number) (f .place)) 0 65535 → BoundsWithin l q old old r
   bounds-refused n e = fills-refused (call-checks (ltb (length old) (q .jobs)) (q .bound) l q) _ 65535 (q .jobs) old (j .says) n e
 
   module _ (z : f .number ≡ 0) (t : ℕ) (h : t ≡ top l q) where
@@ -75,20 +76,20 @@ module _ (l : Loaded) (q : Ask) (old : List ℕ) {f : Answer}
     none-of : NoPlan (problem l q) t → NoPlan (problem l q) (q .bound)
     none-of n = none-up l q (ok .order) (ok .within) (subst (λ (b : ℕ). NoPlan (problem l q) b) h n)
 
-    pub plans-none : {r : Answer} → r ≡ answer (refused 10 0) 0 0 → NoPlan (problem l q) t → PlansWithin l q old old r
+    pub plans-none : {r : Answer} → r ≡ answerOf (refused 10 0) 0 0 → NoPlan (problem l q) t → PlansWithin l q old old r
     plans-none e n = fills-behind (call-checks (ltb (length old) (q .jobs)) (q .bound) l q) _ 0 (q .jobs) old (j .says) z
         (refused 10 0) 0 (λ i. 0) (refl, inr (refl, none-of n)) e refl
 
-    pub plans-found : {r : Answer} {st new : List ℕ} {found : Bool} → r ≡ answer accepted 0 0 → new ≡ filled (entry st) (q .jobs) old → PlanAt (problem l q) t st found → found ≡ true
+    pub plans-found : {r : Answer} {st new : List ℕ} {found : Bool} → r ≡ answerOf accepted 0 0 → new ≡ filled (entry st) (q .jobs) old → PlanAt (problem l q) t st found → found ≡ true
         → PlansWithin l q old new r
     plans-found {st = st} e w d y = fills-behind (call-checks (ltb (length old) (q .jobs)) (q .bound) l q) _ 0 (q .jobs) old (j .says) z accepted 0 (planOf st)
         (refl, inl (refl, first-up l q (ok .order) (ok .within) (planOf st) (subst (λ (b : ℕ). First (problem l q) b (planOf st)) h (d .first y)))) e (starts-filled st (d .size y) w)
 
-    pub bounds-none : {r : Answer} → r ≡ answer (refused 10 0) 0 65535 → NoPlan (problem l q) t → BoundsWithin l q old old r
+    pub bounds-none : {r : Answer} → r ≡ answerOf (refused 10 0) 0 65535 → NoPlan (problem l q) t → BoundsWithin l q old old r
     bounds-none e n = fills-behind (call-checks (ltb (length old) (q .jobs)) (q .bound) l q) _ 65535 (q .jobs) old (j .says) z
         (refused 10 0) 65535 (λ i. 0) (inr (refl, (refl, none-of n))) e refl
 
-    pub bounds-found : {r : Answer} {b : ℕ} {st new : List ℕ} → r ≡ answer accepted b 0 → new ≡ filled (entry st) (q .jobs) old → LeastOf (problem l q) t st b → b ≢ 65535
+    pub bounds-found : {r : Answer} {b : ℕ} {st new : List ℕ} → r ≡ answerOf accepted b 0 → new ≡ filled (entry st) (q .jobs) old → LeastOf (problem l q) t st b → b ≢ 65535
         → BoundsWithin l q old new r
     bounds-found {b = b} {st = st} e w d y = fills-behind (call-checks (ltb (length old) (q .jobs)) (q .bound) l q) _ 65535 (q .jobs) old (j .says) z accepted b (planOf st)
         (inl (refl, least-up l q (ok .order) (ok .within) b (planOf st) (subst (λ (x : ℕ). LeastBound (problem l q) x b (planOf st)) h (d .found y)))) e (starts-filled st (d .size y) w)

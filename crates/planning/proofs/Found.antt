@@ -6,10 +6,10 @@ use Prim.Native.Nat.{ℕ}
 use native.Mathlib.Omega.{arith}
 use lib.Dec.{ltb}
 use lib.ListN.{length}
-use Rattle.rules.specs.Refusals.{Verdict, accepted}
+use Rattle.refusals.specs.Refusals.{Verdict, accepted}
 use Rattle.rules.specs.Plans.{Plan}
 use Rattle.rules.specs.Order.{First, LeastBound, NoPlan}
-use Rattle.rules.proofs.Refused.{Checks, answers-yes, answers-no}
+use Rattle.refusals.proofs.Refused.{Checks, ruled-yes, ruled-no}
 use Rattle.tables.specs.declared.Loaded.{Loaded}
 use Rattle.tables.specs.declared.Ask.{Ask}
 use Rattle.tables.specs.declared.Answer.{Answer}
@@ -35,11 +35,11 @@ module _ (l : Loaded) (q : Ask) (old new : List ℕ) (r : Answer) where
   pub plan-found : PlansWithin l q old new r → r .number ≡ 0 → FoundFirst
   plan-found a z =
       let f = fills-found checks _ 0 (q .jobs) old a z in
-      record { checks = f .checks; s = a .s; ok = answers-yes 10 (a .v) (omega arith) (a .behind (f .checks) .1) (f .zero) .1; table = f .table }
+      record { checks = f .checks; s = a .s; ok = ruled-yes 10 (a .v) (omega arith) (a .behind (f .checks) .1) (f .zero) .1; table = f .table }
 
   -- where the checks accept, 10 says that there is no plan
   pub plan-none : C accepted ≡ accepted → PlansWithin l q old new r → r .number ≡ 10 → NoPlan (problem l q) (q .bound)
-  plan-none e a z = answers-no 10 (a .v) (omega arith) (a .behind e .1) (behind-number checks _ 0 (q .jobs) old a e ∙ z)
+  plan-none e a z = ruled-no 10 (a .v) (omega arith) (a .behind e .1) (behind-number checks _ 0 (q .jobs) old a e ∙ z)
 
   -- the same of the least bound, which is returned
   pub record FoundLeast : Type 0 where
@@ -54,6 +54,6 @@ module _ (l : Loaded) (q : Ask) (old new : List ℕ) (r : Answer) where
       record {
         checks = f .checks;
         s = a .s;
-        ok = subst (λ (x : ℕ). LeastBound (problem l q) (q .bound) x (a .s)) (sym (f .value)) (answers-yes 10 (a .v) (omega arith) (a .behind (f .checks)) (f .zero) .1);
+        ok = subst (λ (x : ℕ). LeastBound (problem l q) (q .bound) x (a .s)) (sym (f .value)) (ruled-yes 10 (a .v) (omega arith) (a .behind (f .checks)) (f .zero) .1);
         table = f .table;
       }

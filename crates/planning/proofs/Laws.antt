@@ -12,10 +12,11 @@ use native.Mathlib.Decide.{decLt}
 use borrow.Author.Tests.{not-true}
 use lib.Dec.{T, eqb}
 use Rattle.facts.proofs.Bools.{below-suc, eqb-not, not-eqb}
-use Rattle.rules.specs.Table.{Problem, InOrder}
+use Rattle.rules.specs.Table.{Problem}
+use Rattle.rules.specs.Premises.{InOrder}
 use Rattle.rules.specs.Plans.{Plan, inPlan, Valid}
 use Rattle.rules.specs.Order.{First, LeastBound, NoPlan}
-use Rattle.rules.proofs.Sums.{sum}
+use Rattle.rules.specs.Sums.{sum}
 use Rattle.rules.proofs.Orders.{wider}
 use Rattle.rules.proofs.Enough.{narrower}
 use Rattle.tables.specs.Tables.{problem}
@@ -28,12 +29,12 @@ use Rattle.states.proofs.Firsts.{dead-none}
 use Rattle.cells.specs.View.{view, Sets}
 use Rattle.lent.specs.Lent.{Listed, Lent}
 use Rattle.lent.proofs.Laws.{rebound-to, rebound-back, rebound-lent}
-use Rattle.leaves.specs.Leaf.{planOf, SettledBy, Answers}
+use Rattle.leaves.specs.Leaf.{planOf, SettledBy, Resolves}
 use Rattle.search.specs.Search.{Some}
-use Rattle.planner.specs.Planner.{Begins, FirstOf}
+use Rattle.planner.specs.Planner.{BeginsSo, FirstPlanIs}
 use Rattle.outset.specs.Outset.{FitsAll, SetsOut}
 use Rattle.outset.specs.declared.Outset.{Outset}
-use Rattle.planning.specs.Derived.{PlanAt, Served, Kept, NoneBelow, SomeAt, AnyAt, FirstAt, Hopeless, Later, LastEnd, Probes, Held, Halves, LeastOf}
+use Rattle.planning.specs.Derived.{PlanAt, Served, SameLists, NoneBelow, SomeAt, AnyAt, FirstAt, Hopeless, Later, LastEnd, Probes, Bracketed, Halves, LeastOf}
 
 -- where there is no plan within mid there is none within less
 pub none-below : (P : Problem) (mid : ℕ) → NoPlan P mid → (c : ℕ) → c < mid + 1 → NoPlan P c
@@ -48,14 +49,14 @@ module _ {L K : List ℕ} {bound x : ℕ} (d : Sets L 227 x K) (z : x ≡ bound)
   pub some-lent : Some (Lent K)
   some-lent = (record { problem = v .served; bound = bound }, lent-at (v .served) (v .listed))
 
-  kept-at : Kept L K
+  kept-at : SameLists L K
   kept-at = record { to = rebound-to d; back = rebound-back d }
 
   module _ (s : List ℕ) (f : (P : Search) → Lent K P → FitsAll P s) where
     none-at : ((P : Search) → Lent K P → Dead P (view s)) → NoneBelow L (bound + 1)
     none-at n P t = none-below P bound (dead-none _ (view s) (λ F b. f _ (lent-at P t) F (b .ok)) (n _ (lent-at P t)))
 
-    pub any-at : {old new : List ℕ} {r : Bool} → Answers (Lent K) s old new r → AnyAt L bound old K new r
+    pub any-at : {old new : List ℕ} {r : Bool} → Resolves (Lent K) s old new r → AnyAt L bound old K new r
     any-at a = record {
       some = λ e. record { valid = λ P t. a .plan e _ (lent-at P t) .good; size = a .size e };
       none = λ e. none-at (λ P l. a .none e P l);
@@ -66,7 +67,7 @@ module _ {L K : List ℕ} {bound x : ℕ} (d : Sets L 227 x K) (z : x ≡ bound)
     pub hopeless-at : {r : List ℕ} {ok : Bool} → SettledBy K s r ok → Hopeless L bound K (not ok)
     hopeless-at {ok = ok} a = record { none = λ e. none-at (λ P l. keeps-dead (a .prunes .keeps P (l .listed .wf) l) (a .rest .dead (not-true ok e) P l)); kept = kept-at }
 
-    pub begins-at : {q : List ℕ} → SomeAt L bound q → Begins (Lent K) 0 s q
+    pub begins-at : {q : List ℕ} → SomeAt L bound q → BeginsSo (Lent K) 0 s q
     begins-at {q} w = record {
       prefix = λ P o. firsts.begin P (o .listed .wf) (view s) (planOf q) (subst (λ (b : ℕ). Valid (P .problem) b (planOf q)) (sym (bound-is P o)) (w .valid (P .problem) (rebound-back d (P .problem) (o .listed)))) (λ F b. f P o F (b .ok));
       size = w .size;
@@ -75,19 +76,19 @@ module _ {L K : List ℕ} {bound x : ℕ} (d : Sets L 227 x K) (z : x ≡ bound)
         bound-is : (P : Search) → Lent K P → P .bound ≡ bound
         bound-is P o = omega (arith, o .bound, lent-at (v .served) (v .listed) .bound)
 
-  pub first-at : {q : List ℕ} → FirstOf (Lent K) q → FirstAt L bound q
+  pub first-at : {q : List ℕ} → FirstPlanIs (Lent K) q → FirstAt L bound q
   first-at a = record { first = λ P t. a .plan _ (lent-at P t); size = a .size }
 
 -- ── lists of the same problems ──
 
-pub kept-refl : (L : List ℕ) → Kept L L
+pub kept-refl : (L : List ℕ) → SameLists L L
 kept-refl L = record { to = λ P t. t; back = λ P t. t }
 
-module _ {L K : List ℕ} (k : Kept L K) where
-  pub kept-trans : {M : List ℕ} → Kept K M → Kept L M
+module _ {L K : List ℕ} (k : SameLists L K) where
+  pub kept-trans : {M : List ℕ} → SameLists K M → SameLists L M
   kept-trans m = record { to = λ P t. m .to P (k .to P t); back = λ P t. k .back P (m .back P t) }
 
-  pub kept-back : Kept K L
+  pub kept-back : SameLists K L
   kept-back = record { to = k .back; back = k .to }
 
   pub served-to : {bound high : ℕ} → Served L high → bound ≤ high → Served K bound
@@ -99,7 +100,7 @@ module _ {L K : List ℕ} (k : Kept L K) where
   pub some-to : {bound : ℕ} {starts : List ℕ} → SomeAt L bound starts → SomeAt K bound starts
   some-to w = record { valid = λ P t. w .valid P (k .back P t); size = w .size }
 
-  pub held-to : {low high : ℕ} {starts : List ℕ} → Held L low high starts → Held K low high starts
+  pub held-to : {low high : ℕ} {starts : List ℕ} → Bracketed L low high starts → Bracketed K low high starts
   held-to h = record { none = none-to (h .none); some = some-to (h .some); within = h .within }
 
 -- there is no plan, so no bound is the least
@@ -173,7 +174,7 @@ not-below P low e s n v = go (decLt e low)
     go (no h) = omega arith
 
 -- a range whose high end is that of a plan
-held-at : {L starts : List ℕ} {low high b : ℕ} → Served L b → NoneBelow L low → SomeAt L high starts → Held L low high starts
+held-at : {L starts : List ℕ} {low high b : ℕ} → Served L b → NoneBelow L low → SomeAt L high starts → Bracketed L low high starts
 held-at {starts = starts} {low} {high} v n w = record { none = n; some = w; within = not-below (v .served) low high (planOf starts) (n (v .served) (v .listed)) (w .valid (v .served) (v .listed)) }
 
 pub probes-up : {L K : List ℕ} {low high mid : ℕ} {r : Bool} → Hopeless L mid K r → r ≡ true → low ≤ mid → mid < high → Probes L low high K (record { low = mid + 1; high = high })
@@ -191,7 +192,7 @@ module _ {L K old new : List ℕ} {bound : ℕ} {r : Bool} (d : AnyAt L bound ol
     pub ends-within : Served L bound → e ≤ bound
     ends-within v = end-within (v .served) (v .listed .wf) (planOf new) bound e (ends (v .served) (d .kept .to (v .served) (v .listed))) (d .some h .valid (v .served) (v .listed))
 
-    pub ends-held : {low : ℕ} → Served L bound → NoneBelow L low → Held L low e new
+    pub ends-held : {low : ℕ} → Served L bound → NoneBelow L low → Bracketed L low e new
     ends-held v n = held-at v n ends-some
 
     pub halves-down : {low high : ℕ} → Served L bound → bound < high → NoneBelow L low → Halves L low high K new (record { low = low; high = e })
@@ -199,7 +200,7 @@ module _ {L K old new : List ℕ} {bound : ℕ} {r : Bool} (d : AnyAt L bound ol
         let w = ends-held v n in
         record { held = w; top = omega (arith, ends-within v); less = omega (arith, ends-within v, w .within); kept = d .kept }
 
-  pub halves-up : {low high : ℕ} → r ≡ false → low ≤ bound → bound < high → Held L low high old → Halves L low high K new (record { low = bound + 1; high = high })
+  pub halves-up : {low high : ℕ} → r ≡ false → low ≤ bound → bound < high → Bracketed L low high old → Halves L low high K new (record { low = bound + 1; high = high })
   halves-up {high = high} e l m w = record {
     held = record { none = d .none e; some = subst (λ (s : List ℕ). SomeAt L high s) (sym (d .same e)) (w .some); within = omega arith };
     top = le-refl high;
@@ -208,7 +209,7 @@ module _ {L K old new : List ℕ} {bound : ℕ} {r : Bool} (d : AnyAt L bound ol
   }
 
 -- the least bound with the first plan at it
-pub least-found : {L starts best : List ℕ} {top b : ℕ} → Held L b b starts → b ≤ top → top < 65535 → FirstAt L b best → (P : Problem) → Listed L P → LeastOf P top best b
+pub least-found : {L starts best : List ℕ} {top b : ℕ} → Bracketed L b b starts → b ≤ top → top < 65535 → FirstAt L b best → (P : Problem) → Listed L P → LeastOf P top best b
 least-found w l s f P t = record {
   found = λ x. record { within = l; first = f .first P t; none = λ c z m g. w .none P t c m z g };
   size = λ x. f .size;

@@ -7,7 +7,8 @@ use mathlib.Core.List.{List}
 use Prim.Native.Nat.{ℕ, _+_, _-_, _≤_, _<_}
 use lib.Dec.{T}
 use lib.ListN.{length}
-use Rattle.rules.specs.Table.{Problem, InOrder}
+use Rattle.rules.specs.Table.{Problem}
+use Rattle.rules.specs.Premises.{InOrder}
 use Rattle.rules.specs.Plans.{Plan, inPlan, Valid}
 use Rattle.rules.specs.Order.{First, LeastBound, NoPlan}
 use Rattle.tables.specs.Tables.{problem}
@@ -38,7 +39,7 @@ pub record Served (L : List ℕ) (bound : ℕ) : Type 0 where
   pub short : bound < 65535
 
 -- the lists L and K are those of the same problems
-pub record Kept (L K : List ℕ) : Type 0 where
+pub record SameLists (L K : List ℕ) : Type 0 where
   pub to : (P : Problem) → Listed L P → Listed K P
   pub back : (P : Problem) → Listed K P → Listed L P
 
@@ -56,7 +57,7 @@ pub record AnyAt (L : List ℕ) (bound : ℕ) (old K new : List ℕ) (found : Bo
   pub some : found ≡ true → SomeAt L bound new
   pub none : found ≡ false → NoneBelow L (bound + 1)
   pub same : found ≡ false → new ≡ old
-  pub kept : Kept L K
+  pub kept : SameLists L K
 
 -- the starts are the first plan within the bound
 pub record FirstAt (L : List ℕ) (bound : ℕ) (starts : List ℕ) : Type 0 where
@@ -66,7 +67,7 @@ pub record FirstAt (L : List ℕ) (bound : ℕ) (starts : List ℕ) : Type 0 whe
 -- there is no plan within the bound, if the answer says so
 pub record Hopeless (L : List ℕ) (bound : ℕ) (K : List ℕ) (r : Bool) : Type 0 where
   pub none : r ≡ true → NoneBelow L (bound + 1)
-  pub kept : Kept L K
+  pub kept : SameLists L K
 
 -- ── where a plan ends ──
 
@@ -89,38 +90,38 @@ pub record Probes (L : List ℕ) (low high : ℕ) (K : List ℕ) (r : Range) : T
   pub within : r .low ≤ r .high
   pub top : r .high ≤ high
   pub less : r .high - r .low < high - low
-  pub kept : Kept L K
+  pub kept : SameLists L K
 
 -- there is no plan below b, which is at most top
 pub record LowEnd (L : List ℕ) (top : ℕ) (K : List ℕ) (b : ℕ) : Type 0 where
   pub none : NoneBelow L b
   pub within : b ≤ top
-  pub kept : Kept L K
+  pub kept : SameLists L K
 
 -- the range holds the least bound, and the starts are a plan within its high end
-pub record Held (L : List ℕ) (low high : ℕ) (starts : List ℕ) : Type 0 where
+pub record Bracketed (L : List ℕ) (low high : ℕ) (starts : List ℕ) : Type 0 where
   pub none : NoneBelow L low
   pub some : SomeAt L high starts
   pub within : low ≤ high
 
 -- the range r holds the least bound, or its high end is 65,535: there is no plan within top
 pub record Rises (L : List ℕ) (top : ℕ) (K starts : List ℕ) (r : Range) : Type 0 where
-  pub held : r .high ≢ 65535 → Held L (r .low) (r .high) starts × (r .high ≤ top)
+  pub held : r .high ≢ 65535 → Bracketed L (r .low) (r .high) starts × (r .high ≤ top)
   pub none : r .high ≡ 65535 → NoneBelow L (top + 1)
-  pub kept : Kept L K
+  pub kept : SameLists L K
 
 -- the range r holds the least bound and is smaller
 pub record Halves (L : List ℕ) (low high : ℕ) (K starts : List ℕ) (r : Range) : Type 0 where
-  pub held : Held L (r .low) (r .high) starts
+  pub held : Bracketed L (r .low) (r .high) starts
   pub top : r .high ≤ high
   pub less : r .high - r .low < high - low
-  pub kept : Kept L K
+  pub kept : SameLists L K
 
 -- b is the least bound, at most high, and the starts are a plan within it
 pub record Narrows (L : List ℕ) (high : ℕ) (K starts : List ℕ) (b : ℕ) : Type 0 where
-  pub held : Held L b b starts
+  pub held : Bracketed L b b starts
   pub within : b ≤ high
-  pub kept : Kept L K
+  pub kept : SameLists L K
 
 -- the least bound up to top with the first plan at it, or 65,535: there is no plan
 pub record LeastOf (P : Problem) (top : ℕ) (starts : List ℕ) (b : ℕ) : Type 0 where

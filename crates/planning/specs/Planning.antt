@@ -5,7 +5,7 @@ use mathlib.Core.List.{List}
 use Prim.Native.Nat.{ℕ}
 use lib.Dec.{ltb}
 use lib.ListN.{length}
-use Rattle.rules.specs.Refusals.{Verdict}
+use Rattle.refusals.specs.Refusals.{Verdict}
 use Rattle.rules.specs.Order.{Planned, Bounded}
 use Rattle.tables.specs.declared.Loaded.{Loaded}
 use Rattle.tables.specs.declared.Ask.{Ask}

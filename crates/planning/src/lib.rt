@@ -4,11 +4,11 @@ ghost use mathlib.Core.Bool.{true};
 ghost use Prim.Native.Nat.{_+_, _≤_, _<_, min};
 ghost use lib.ListN.{getD, length};
 ghost use Rattle.rules.specs.Table.{Problem};
-ghost use Rattle.rules.proofs.Sums.{sum};
+ghost use Rattle.rules.specs.Sums.{sum};
 ghost use Rattle.tables.specs.Tables.{jobAt, problem};
 ghost use Rattle.lent.specs.Lent.{Listed};
 ghost use Rattle.leaves.specs.Leaf.{planOf};
-ghost use Rattle.planning.specs.Derived.{InReach, PlanAt, Served, NoneBelow, SomeAt, AnyAt, FirstAt, Hopeless, Later, LastEnd, Probes, LowEnd, Held, Rises, Halves, Narrows, LeastOf};
+ghost use Rattle.planning.specs.Derived.{InReach, PlanAt, Served, NoneBelow, SomeAt, AnyAt, FirstAt, Hopeless, Later, LastEnd, Probes, LowEnd, Bracketed, Rises, Halves, Narrows, LeastOf};
 ghost use Rattle.planning.specs.Planning.{PlansWithin, BoundsWithin};
 use lent::Tables;
 use tables::Answer;
@@ -21,19 +21,12 @@ pub struct Range {
     pub high: u16,
 }
 
-// The same number, wide enough for sums.
-fn wide(x: u16) -> u32
-    ensures { λ r. ⌜ (r ≡ x) × (r < 65536) ⌝ }
-{
-    x as u32
-}
-
 // A valid plan within the bound.
 fn any_at(t: &mut Tables, bound: u16, out: &mut [u16; 24]) -> bool
     requires { ⌜ Served (now t) bound ⌝ }
     ensures { λ r. ⌜ AnyAt (now (t .entry)) bound (now (out .entry)) (now (t .exit)) (now (out .exit)) r ⌝ }
 {
-    lent::put_bound(t, wide(bound));
+    lent::put_bound(t, entries::wide(bound));
     let mut s = outset::root(t);
     search::find_plan(&mut s, t, out)
 }
@@ -43,7 +36,7 @@ fn first_at(t: &mut Tables, bound: u16, out: &mut [u16; 24])
     requires { ⌜ Served (now t) bound × SomeAt (now t) bound (now out) ⌝ }
     ensures { λ _. ⌜ FirstAt (now (t .entry)) bound (now (out .exit)) ⌝ }
 {
-    lent::put_bound(t, wide(bound));
+    lent::put_bound(t, entries::wide(bound));
     let mut s = outset::root(t);
     planner::first(&mut s, t, out);
 }
@@ -53,7 +46,7 @@ fn hopeless(t: &mut Tables, bound: u16) -> bool
     requires { ⌜ Served (now t) bound ⌝ }
     ensures { λ r. ⌜ Hopeless (now (t .entry)) bound (now (t .exit)) r ⌝ }
 {
-    lent::put_bound(t, wide(bound));
+    lent::put_bound(t, entries::wide(bound));
     let mut s = outset::root(t);
     !search::pruned(&mut s, t)
 }
@@ -66,7 +59,7 @@ fn all_durations(l: Loaded, n: usize) -> u32
     let mut all: u32 = 0;
     for j in 0..n {
         let a = l.jobs[j];
-        all = all + wide(a.duration);
+        all = all + entries::wide(a.duration);
     }
     all
 }
@@ -78,7 +71,7 @@ fn enough(l: Loaded, q: Ask) -> u16
 {
     let all = all_durations(l, q.jobs);
     let bound = q.bound;
-    if all < wide(bound) {
+    if all < entries::wide(bound) {
         return all as u16;
     }
     bound
@@ -91,7 +84,7 @@ fn later(start: u16, dur: u32, end: u64) -> u64
     if start == 65535 {
         return end;
     }
-    let e = cells::sum(wide(start), dur);
+    let e = cells::sum(entries::wide(start), dur);
     if e < end {
         return end;
     }
@@ -177,7 +170,7 @@ fn rise(t: &mut Tables, low: u16, top: u16, out: &mut [u16; 24]) -> Range
 
 // The half of the range that holds the least bound.
 fn halve(t: &mut Tables, low: u16, high: u16, out: &mut [u16; 24]) -> Range
-    requires { ⌜ Served (now t) high × Held (now t) low high (now out) × (low < high) ⌝ }
+    requires { ⌜ Served (now t) high × Bracketed (now t) low high (now out) × (low < high) ⌝ }
     ensures { λ r. ⌜ Halves (now (t .entry)) low high (now (t .exit)) (now (out .exit)) r ⌝ }
 {
     let mid = low + (high - low) / 2;
@@ -193,7 +186,7 @@ fn halve(t: &mut Tables, low: u16, high: u16, out: &mut [u16; 24]) -> Range
 
 // The least bound of a range, with a plan within it.
 fn narrow(t: &mut Tables, from: u16, top: u16, out: &mut [u16; 24]) -> u16
-    requires { ⌜ Served (now t) top × Held (now t) from top (now out) ⌝ }
+    requires { ⌜ Served (now t) top × Bracketed (now t) from top (now out) ⌝ }
     ensures { λ b. ⌜ Narrows (now (t .entry)) top (now (t .exit)) (now (out .exit)) b ⌝ }
 {
     let mut low = from;
@@ -283,5 +276,5 @@ pub fn least_bound(l: Loaded, q: Ask, out: &mut [u16]) -> Answer
         return tables::refuse(10, 0, 65535);
     }
     entries::fill(out, starts, q.jobs);
-    tables::done(wide(bound))
+    tables::done(entries::wide(bound))
 }

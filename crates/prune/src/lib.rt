@@ -1,11 +1,10 @@
 // Pruning by supports.
-ghost use mathlib.Core.Path.{_≡_};
 ghost use Prim.Native.Nat.{ℕ, _+_, _≤_, _<_};
 ghost use lib.Dec.{T};
 ghost use Rattle.facts.specs.Facts.{has};
 ghost use Rattle.cells.specs.View.{view, Prunes};
 ghost use Rattle.lent.specs.Lent.{wantsOf, waitOf, Lent};
-ghost use Rattle.prune.specs.Prune.{Lost, Spared, Begun, Single, LeastOf, Awaits, OnlyOne, OnlyStart};
+ghost use Rattle.prune.specs.Prune.{Lost, Spared, Begun, LeastEnd, Awaits, OnlyOne, OnlyStart};
 use cells::State;
 use lent::Tables;
 
@@ -51,8 +50,8 @@ fn spare_all(s: &mut State, b: usize, a: usize, kills: u32)
 {
     let mut w = kills;
     while w != 0 {
-        spare(s, b, a, cells::lowest(w));
-        w = cells::rest(w);
+        spare(s, b, a, jobs::lowest(w));
+        w = jobs::rest(w);
     }
 }
 
@@ -101,26 +100,9 @@ fn follow_all(s: &mut State, b: usize, kills: u32)
 {
     let mut w = kills;
     while w != 0 {
-        follow(s, b, cells::lowest(w));
-        w = cells::rest(w);
+        follow(s, b, jobs::lowest(w));
+        w = jobs::rest(w);
     }
-}
-
-// The one bit of w, or 24 if there is none or another.
-fn single(w: u32) -> usize
-    ensures { λ r. ⌜ Single w r ⌝ }
-{
-    if w == 0 {
-        return 24;
-    }
-    if cells::rest(w) != 0 {
-        return 24;
-    }
-    let a = cells::lowest(w);
-    if 24 <= a {
-        return 24;
-    }
-    a
 }
 
 // The smaller of m and where b may start at the earliest behind job a.
@@ -141,13 +123,13 @@ fn sooner(s: &State, a: usize, b: usize, t: &Tables, m: u64) -> u64
 // Where b may start at the earliest behind the first of its candidates.
 fn least_of(s: &State, w: u32, b: usize, t: &Tables) -> u64
     requires { ⌜ b ≤ 24 ⌝ }
-    ensures { λ r. ⌜ LeastOf (now (s .entry)) (now (t .entry)) w b r ⌝ }
+    ensures { λ r. ⌜ LeastEnd (now (s .entry)) (now (t .entry)) w b r ⌝ }
 {
     let mut m: u64 = 8589934592;
     let mut v = w;
     while v != 0 {
-        m = sooner(s, cells::lowest(v), b, t, m);
-        v = cells::rest(v);
+        m = sooner(s, jobs::lowest(v), b, t, m);
+        v = jobs::rest(v);
     }
     m
 }
@@ -168,7 +150,7 @@ fn only_one(s: &mut State, b: usize, w: u32, kills: u32)
     requires { ⌜ b ≤ 24 ⌝ }
     ensures { λ _. ⌜ Prunes (OnlyOne (now (s .entry)) b w kills) (now (s .entry)) (now (s .exit)) ⌝ }
 {
-    let a = single(w);
+    let a = jobs::single(w);
     if a == 24 {
         return;
     }

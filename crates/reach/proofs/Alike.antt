@@ -5,7 +5,8 @@ use Prim.Native.Nat.{ℕ, _<_}
 use native.Mathlib.Omega.{arith}
 use lib.Dec.{T}
 use Rattle.facts.specs.Facts.{has}
-use Rattle.rules.specs.Table.{Problem, InOrder, needs, adds, deletes}
+use Rattle.rules.specs.Table.{Problem, needs}
+use Rattle.rules.specs.Premises.{InOrder, adds, deletes}
 use Rattle.rules.proofs.Early.{Alike}
 use Rattle.reach.specs.Reach.{PairSet, Fit, Closed}
 

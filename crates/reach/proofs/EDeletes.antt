@@ -9,7 +9,8 @@ use lib.Dec.{T}
 use Rattle.facts.specs.Facts.{has}
 use Rattle.facts.proofs.Bools.{T?}
 use Rattle.facts.proofs.Sets.{one-fails}
-use Rattle.rules.specs.Table.{Problem, InOrder, needs, adds, deletes}
+use Rattle.rules.specs.Table.{Problem, needs}
+use Rattle.rules.specs.Premises.{InOrder, adds, deletes}
 use Rattle.rules.specs.Plans.{Plan, In, finish, Over, holds, Valid}
 use Rattle.rules.proofs.Clash.{ordered}
 use Rattle.reach.specs.Reach.{PairSet, Fit, Closed, Exclude, EDeletes, outright, by-adding, by-needing}

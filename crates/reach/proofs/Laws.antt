@@ -10,10 +10,11 @@ use native.Mathlib.Omega.{arith}
 use lib.Dec.{T, eqb, eqb→eq}
 use lib.ListN.{length, getD, set, length-set, List·getD-eq-default}
 use lib.Seq.{getD-set-same, getD-set-other}
-use Rattle.facts.specs.Facts.{has, Word, Decides}
+use Rattle.facts.specs.Facts.{has}
+use Rattle.facts.specs.Words.{Word, Decides}
 use Rattle.facts.proofs.Bools.{and-l, and-r, and-of, or-cases, or-l, or-r, below-suc, eqb-of, passes, decides-true}
 use Rattle.facts.proofs.Sets.{has-zero}
-use Rattle.reach.specs.Rows.{inRows, FitIn, Seen, Beside, more, Grown, Found, Looked}
+use Rattle.reach.specs.Rows.{inRows, FitIn, Seen, StayBeside, grownRow, Grown, PairFound, Looked}
 
 -- ── words ──
 
@@ -29,10 +30,10 @@ if-not x y e = same x ∙ ap (λ (b : Bool). x || (b && y)) (sym e)
 
 -- ── what stays beside a job ──
 
-pub beside-none : (rows : List ℕ) (c d : ℕ) → Beside rows c d 0 0
+pub beside-none : (rows : List ℕ) (c d : ℕ) → StayBeside rows c d 0 0
 beside-none rows c d = record { sound = λ q h. absurd (has-zero q h); whole = λ q l. absurd (omega arith) }
 
-pub beside-more : (rows : List ℕ) (c d n w r : ℕ) (hit : Bool) → Beside rows c d n w → Decides hit (Seen (getD rows n 0) c d n) → Word (λ q. has w q || (hit && eqb q n)) r → Beside rows c d (n + 1) r
+pub beside-more : (rows : List ℕ) (c d n w r : ℕ) (hit : Bool) → StayBeside rows c d n w → Decides hit (Seen (getD rows n 0) c d n) → Word (λ q. has w q || (hit && eqb q n)) r → StayBeside rows c d (n + 1) r
 beside-more rows c d n w r hit b k e = record { sound = λ q h. from q (or-cases (has w q) _ (subst T (e q) h)); whole = λ q l y. subst T (sym (e q)) (into q (below-suc q n (omega arith)) y) }
   where
     from : (q : ℕ) → T (has w q) ⊎ T (hit && eqb q n) → Seen (getD rows q 0) c d q
@@ -49,7 +50,7 @@ module _ (old : List ℕ) (a w : ℕ) where
   pub grown-none : length old ≡ 64 → Grown old a w 0 old
   grown-none e = record { size = e; grown = λ p l. absurd (omega arith); rest = λ p l. refl }
 
-  pub grown-more : (n row : ℕ) (cur new : List ℕ) → n < 64 → Grown old a w n cur → Word (more (getD old n 0) a w n) row → new ≡ set cur n row → Grown old a w (n + 1) new
+  pub grown-more : (n row : ℕ) (cur new : List ℕ) → n < 64 → Grown old a w n cur → Word (grownRow (getD old n 0) a w n) row → new ≡ set cur n row → Grown old a w (n + 1) new
   grown-more n row cur new l g f e = record { size = ap (λ (x : List ℕ). length x) e ∙ (length-set cur n row ∙ g .size); grown = λ p m. below p (below-suc p n (omega arith)); rest = λ p m. behind p m }
     where
       other : (p : ℕ) → (p ≡ n → ⊥) → getD new p 0 ≡ getD cur p 0
@@ -58,9 +59,9 @@ module _ (old : List ℕ) (a w : ℕ) where
       here : getD new n 0 ≡ row
       here = ap (λ (x : List ℕ). getD x n 0) e ∙ getD-set-same cur n row 0 (omega (arith, g .size))
 
-      below : (p : ℕ) → (p < n) ⊎ (p ≡ n) → Word (more (getD old p 0) a w p) (getD new p 0)
-      below p (inl m) = subst (Word (more (getD old p 0) a w p)) (sym (other p (λ x. omega arith))) (g .grown p m)
-      below p (inr m) = rw m (subst (Word (more (getD old n 0) a w n)) (sym here) f)
+      below : (p : ℕ) → (p < n) ⊎ (p ≡ n) → Word (grownRow (getD old p 0) a w p) (getD new p 0)
+      below p (inl m) = subst (Word (grownRow (getD old p 0) a w p)) (sym (other p (λ x. omega arith))) (g .grown p m)
+      below p (inr m) = rw m (subst (Word (grownRow (getD old n 0) a w n)) (sym here) f)
 
       behind : (p : ℕ) → n + 1 ≤ p → getD new p 0 ≡ getD old p 0
       behind p m = other p (λ x. omega arith) ∙ g .rest p (omega arith)
@@ -84,35 +85,35 @@ module _ (rows : List ℕ) (c a d : ℕ) (size : length rows ≡ 64) where
   pub looked-not : (FitIn rows c 64 → ⊥) → Looked rows c a d rows
   looked-not n = record { size = size; more = λ p q h. h; sound = λ p q h. inl h; whole = λ p q l f. absurd (n (f .fit)) }
 
-  pub looked-fit : (w : ℕ) (new : List ℕ) → FitIn rows c 64 → Beside rows c d 64 w → Grown rows a w 64 new → Looked rows c a d new
+  pub looked-fit : (w : ℕ) (new : List ℕ) → FitIn rows c 64 → StayBeside rows c d 64 w → Grown rows a w 64 new → Looked rows c a d new
   looked-fit w new fit b g = record { size = g .size; more = up; sound = λ p q h. down p q h (decLt p 64); whole = λ p q l f. subst T (sym (g .grown p l q)) (into p q l (f .how)) }
     where
       up : (p q : ℕ) → T (inRows rows p q) → T (inRows new p q)
       up p q h = subst T (sym (g .grown p (in-range rows size p q h) q)) (or-l (has (getD rows p 0) q || (has a p && (has a q || has w q))) _ (or-l (has (getD rows p 0) q) _ h))
 
-      found : (p q : ℕ) → (T (has a p) × T (has a q)) ⊎ (T (has a p) × Seen (getD rows q 0) c d q) ⊎ (T (has a q) × Seen (getD rows p 0) c d p) → T (inRows rows p q) ⊎ Found rows c a d p q
+      found : (p q : ℕ) → (T (has a p) × T (has a q)) ⊎ (T (has a p) × Seen (getD rows q 0) c d q) ⊎ (T (has a q) × Seen (getD rows p 0) c d p) → T (inRows rows p q) ⊎ PairFound rows c a d p q
       found p q h = inr (record { fit = fit; how = h })
 
-      told : (p q : ℕ) → T (has (getD rows p 0) q || (has a p && (has a q || has w q))) ⊎ T (has w p && has a q) → T (inRows rows p q) ⊎ Found rows c a d p q
+      told : (p q : ℕ) → T (has (getD rows p 0) q || (has a p && (has a q || has w q))) ⊎ T (has w p && has a q) → T (inRows rows p q) ⊎ PairFound rows c a d p q
       told p q (inr h) = found p q (inr (inr (and-r (has w p) _ h, b .sound p (and-l (has w p) _ h))))
       told p q (inl h) = first (or-cases (has (getD rows p 0) q) _ h)
         where
-          second : T (has a p) → T (has a q) ⊎ T (has w q) → T (inRows rows p q) ⊎ Found rows c a d p q
+          second : T (has a p) → T (has a q) ⊎ T (has w q) → T (inRows rows p q) ⊎ PairFound rows c a d p q
           second x (inl y) = found p q (inl (x, y))
           second x (inr y) = found p q (inr (inl (x, b .sound q y)))
 
-          first : T (has (getD rows p 0) q) ⊎ T (has a p && (has a q || has w q)) → T (inRows rows p q) ⊎ Found rows c a d p q
+          first : T (has (getD rows p 0) q) ⊎ T (has a p && (has a q || has w q)) → T (inRows rows p q) ⊎ PairFound rows c a d p q
           first (inl y) = inl y
           first (inr y) = second (and-l (has a p) _ y) (or-cases (has a q) _ (and-r (has a p) _ y))
 
-      down : (p q : ℕ) → T (inRows new p q) → Dec (p < 64) → T (inRows rows p q) ⊎ Found rows c a d p q
+      down : (p q : ℕ) → T (inRows new p q) → Dec (p < 64) → T (inRows rows p q) ⊎ PairFound rows c a d p q
       down p q h (yes l) = told p q (or-cases (has (getD rows p 0) q || (has a p && (has a q || has w q))) _ (subst T (g .grown p l q) h))
       down p q h (no l) = inl (subst (λ (x : ℕ). T (has x q)) (g .rest p (omega arith)) h)
 
       stays : (q : ℕ) → Seen (getD rows q 0) c d q → T (has w q)
       stays q y = b .whole q (in-range rows size q q (y .itself)) y
 
-      into : (p q : ℕ) → p < 64 → (T (has a p) × T (has a q)) ⊎ (T (has a p) × Seen (getD rows q 0) c d q) ⊎ (T (has a q) × Seen (getD rows p 0) c d p) → T (more (getD rows p 0) a w p q)
+      into : (p q : ℕ) → p < 64 → (T (has a p) × T (has a q)) ⊎ (T (has a p) × Seen (getD rows q 0) c d q) ⊎ (T (has a q) × Seen (getD rows p 0) c d p) → T (grownRow (getD rows p 0) a w p q)
       into p q l (inl (x, y)) = or-l (has (getD rows p 0) q || (has a p && (has a q || has w q))) _ (or-r (has (getD rows p 0) q) _ (and-of (has a p) _ x (or-l (has a q) _ y)))
       into p q l (inr (inl (x, y))) = or-l (has (getD rows p 0) q || (has a p && (has a q || has w q))) _ (or-r (has (getD rows p 0) q) _ (and-of (has a p) _ x (or-r (has a q) _ (stays q y))))
       into p q l (inr (inr (x, y))) = or-r (has (getD rows p 0) q || (has a p && (has a q || has w q))) _ (and-of (has w p) _ (b .whole p l y) x)

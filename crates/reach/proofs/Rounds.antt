@@ -8,13 +8,16 @@ use Prim.Native.Nat.{ℕ, _+_, _≤_, _<_}
 use native.Mathlib.Omega.{arith}
 use lib.Dec.{T, ltb, lt→ltb, ltb→lt}
 use lib.ListN.{length, getD, replicate, length-replicate, getD-replicate}
-use Rattle.facts.specs.Facts.{has, Covers}
+use Rattle.facts.specs.Facts.{has}
+use Rattle.facts.specs.Words.{Covers}
 use Rattle.facts.proofs.Bools.{and-l, and-r, and-of, below-suc}
 use Rattle.facts.proofs.Sets.{has-zero}
-use Rattle.rules.specs.Table.{Problem, InOrder, adds}
-use Rattle.rules.proofs.Sums.{sum, sum-le, sum-falls}
+use Rattle.rules.specs.Table.{Problem}
+use Rattle.rules.specs.Premises.{InOrder, adds}
+use Rattle.rules.proofs.Sums.{sum-le, sum-falls}
+use Rattle.rules.specs.Sums.{sum}
 use Rattle.reach.specs.Reach.{PairSet, Fit, Closed, Reachable, Exact}
-use Rattle.reach.specs.Rows.{inRows, FitIn, Seen, Found, Looked, Sym, Sound, Within, ClosedAt, Rounds}
+use Rattle.reach.specs.Rows.{inRows, FitIn, Seen, PairFound, Looked, Sym, AllReachable, Within, ClosedAt, PairRound}
 use Rattle.reach.proofs.Laws.{in-range}
 
 -- the pairs of facts below 64
@@ -41,7 +44,7 @@ module _ (P : Problem) where
   pub record Kept (rows : List ℕ) : Type 0 where
     pub size : length rows ≡ 64
     pub sym : Sym rows
-    pub sound : Sound P rows
+    pub sound : AllReachable P rows
     pub opens : Opens rows
 
 module _ (P : Problem) (ok : InOrder P) where
@@ -64,7 +67,7 @@ module _ (P : Problem) (ok : InOrder P) where
 
   module _ (i : ℕ) (l : i < P .count) (cur new : List ℕ) (size : length cur ≡ 64) (g : Looked cur (P .conditions i) (P .additions i) (P .deletions i) new) where
     abbrev Hit : ℕ → ℕ → Type 0
-    Hit p q = Found cur (P .conditions i) (P .additions i) (P .deletions i) p q
+    Hit p q = PairFound cur (P .conditions i) (P .additions i) (P .deletions i) p q
 
     turned : (p q : ℕ) → Hit p q → (q < 64) × Hit q p
     turned p q h = go (h .how)
@@ -81,7 +84,7 @@ module _ (P : Problem) (ok : InOrder P) where
         go (inl x) = g .more q p (y p q x)
         go (inr x) = let z = turned p q x in g .whole q p (z .0) (z .1)
 
-    pub look-sound : Sound P cur → Sound P new
+    pub look-sound : AllReachable P cur → AllReachable P new
     look-sound y p q h S c = go (g .sound p q h)
       where
         fit : FitIn cur (P .conditions i) 64 → Fit P S i
@@ -114,10 +117,10 @@ module _ (P : Problem) (ok : InOrder P) where
 
   -- ── a round ──
 
-  pub round-none : (old : List ℕ) → length old ≡ 64 → Rounds P 0 old old
+  pub round-none : (old : List ℕ) → length old ≡ 64 → PairRound P 0 old old
   round-none old e = record { size = e; more = λ p q h. h; sym = λ y. y; sound = λ y. y; closes = λ y w i l. absurd (omega arith) }
 
-  pub round-more : (k : ℕ) (old cur new : List ℕ) → k < P .count → Rounds P k old cur → Looked cur (P .conditions k) (P .additions k) (P .deletions k) new → Rounds P (k + 1) old new
+  pub round-more : (k : ℕ) (old cur new : List ℕ) → k < P .count → PairRound P k old cur → Looked cur (P .conditions k) (P .additions k) (P .deletions k) new → PairRound P (k + 1) old new
   round-more k old cur new l r g = record {
     size = g .size;
     more = λ p q h. g .more p q (r .more p q h);
@@ -149,14 +152,14 @@ module _ (P : Problem) (ok : InOrder P) where
           how (inr (inl (x, y))) = absurd (empty q q (y .itself))
           how (inr (inr (x, y))) = absurd (empty p p (y .itself))
 
-          go : T (inRows zeros p q) ⊎ Found zeros 0 (P .opening) 0 p q → X
+          go : T (inRows zeros p q) ⊎ PairFound zeros 0 (P .opening) 0 p q → X
           go (inl x) = absurd (empty p q x)
           go (inr x) = how (x .how)
 
       turned : Sym rows
       turned p q h = found p q h (λ x y. g .whole q p (ok .opened q y) (record { fit = λ r l z. absurd (has-zero r z); how = inl (y, x) }))
 
-  pub kept-next : (n : ℕ) (old new : List ℕ) → Kept P old → Rounds P n old new → Kept P new
+  pub kept-next : (n : ℕ) (old new : List ℕ) → Kept P old → PairRound P n old new → Kept P new
   kept-next n old new k r = record { size = r .size; sym = r .sym (k .sym); sound = r .sound (k .sound); opens = λ p q x y. r .more p q (k .opens p q x y) }
 
   lacks-le : (a b : Bool) → (T a → T b) → cond b 0 1 ≤ cond a 0 1
@@ -173,7 +176,7 @@ module _ (P : Problem) (ok : InOrder P) where
   inside-all old new e h p q x = h p (in-range new e p q x) q x
 
   -- where some pair is found, fewer are missing
-  pub fewer : (n : ℕ) (old new : List ℕ) → Kept P old → Rounds P n old new → (Inside new old → ⊥) → missing new < missing old
+  pub fewer : (n : ℕ) (old new : List ℕ) → Kept P old → PairRound P n old new → (Inside new old → ⊥) → missing new < missing old
   fewer n old new k r no-inside = go (sum-falls (λ p. sum (lacks new p) 64) (λ p. sum (lacks old p) 64) 64 (λ p l. sum-le (lacks new p) (lacks old p) 64 (λ q m. lacks-le (has (getD old p 0) q) (has (getD new p 0) q) (r .more p q))))
     where
       go : ((p : ℕ) → p < 64 → sum (lacks new p) 64 ≡ sum (lacks old p) 64) ⊎ (missing new < missing old) → missing new < missing old
@@ -184,7 +187,7 @@ module _ (P : Problem) (ok : InOrder P) where
           row p q (inr m) e x = absurd (omega arith)
           row p q (inl m) e x = lacks-same (has (getD old p 0) q) (has (getD new p 0) q) (m q (small p q (r .sound (k .sound) p q x) .1)) x
 
-  pub exact : (old new : List ℕ) → Kept P old → Rounds P (P .count) old new → Inside new old → Exact P (inRows old)
+  pub exact : (old new : List ℕ) → Kept P old → PairRound P (P .count) old new → Inside new old → Exact P (inRows old)
   exact old new k r w = record {
     closed = record {
       swaps = k .sym;

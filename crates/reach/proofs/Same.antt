@@ -7,7 +7,8 @@ use Prim.Native.Nat.{ℕ, zero, suc, _≤_, _<_}
 use native.Mathlib.Omega.{arith}
 use lib.Dec.{T}
 use Rattle.facts.specs.Facts.{has}
-use Rattle.rules.specs.Table.{Problem, InOrder, needs, adds, deletes}
+use Rattle.rules.specs.Table.{Problem, needs}
+use Rattle.rules.specs.Premises.{InOrder, adds, deletes}
 use Rattle.rules.specs.Plans.{Plan, In, Over, Apart, interfere, ends, finishes, holds, Valid}
 use Rattle.rules.proofs.Time.{if-keep, if-add, if-cause}
 use Rattle.rules.proofs.Clash.{Spoils, interfere-at, clash, flip, given}

@@ -6,7 +6,8 @@ use mathlib.Core.Bool.{Bool}
 use Prim.Native.Nat.{ℕ, zero, suc, _-_, _≤_, _<_}
 use native.Mathlib.Omega.{arith}
 use lib.Dec.{T}
-use Rattle.rules.specs.Table.{Problem, InOrder, needs, adds, deletes}
+use Rattle.rules.specs.Table.{Problem, needs}
+use Rattle.rules.specs.Premises.{InOrder, adds, deletes}
 use Rattle.rules.specs.Plans.{Plan, In, finish, Over, ends, finishes, holds, Valid}
 use Rattle.rules.proofs.Time.{if-cause, ends-in, ends-at, Still, keep, Quiet, persists}
 use Rattle.rules.proofs.Clash.{ordered}

@@ -10,16 +10,19 @@ use native.Mathlib.Omega.{arith}
 use lib.Dec.{T, T-not, not-T}
 use lib.ListN.{length, getD, length-set}
 use lib.Seq.{getD-set-same, getD-set-other}
-use Rattle.facts.specs.Facts.{has, Word, Covers, Decides, after}
+use Rattle.facts.specs.Facts.{has, after}
+use Rattle.facts.specs.Words.{Word, Covers, Decides}
 use Rattle.facts.proofs.Bools.{and-l, and-r, and-of, or-cases, or-l, or-r, passes, below-suc, decides-true}
 use Rattle.facts.proofs.Sets.{has-zero, one-fails}
-use Rattle.rules.specs.Table.{Problem, InOrder, adds}
+use Rattle.rules.specs.Table.{Problem}
+use Rattle.rules.specs.Premises.{InOrder, adds}
 use Rattle.tables.specs.declared.Action.{Action}
 use Rattle.tables.specs.declared.Loaded.{Loaded}
 use Rattle.tables.specs.declared.Ask.{Ask}
-use Rattle.tables.specs.Tables.{noJob, jobAt, withJob, problem}
+use Rattle.tables.specs.Tables.{noJob, jobAt, problem}
+use Rattle.tables.specs.Steps.{withJob}
 use Rattle.reach.specs.Reach.{Closed, EDeletes, outright, by-adding, by-needing, Takes, EWords}
-use Rattle.reach.specs.Rows.{inRows, FitIn, Seen, Beside, Barred, Gone, deleting, EJob, EDone}
+use Rattle.reach.specs.Rows.{inRows, FitIn, Seen, StayBeside, Barred, Gone, deleting, EJob, EDone}
 use Rattle.reach.proofs.Laws.{in-range}
 
 -- a word without the facts of another
@@ -37,7 +40,7 @@ kept x y r w p h n = subst T (sym (w p)) (or-l (has x p && not (has y p)) _ (and
 
 module _ (rows : List ℕ) (size : length rows ≡ 64) where
   -- what can hold and is not reachable with all of w
-  pub barred-is : (w x y r : ℕ) → Beside rows 0 0 64 x → Beside rows w 0 64 y → Word (λ p. after (has 0 p) (has y p) (has x p)) r → (p : ℕ) → Decides (has r p) (Barred rows w p)
+  pub barred-is : (w x y r : ℕ) → StayBeside rows 0 0 64 x → StayBeside rows w 0 64 y → Word (λ p. after (has 0 p) (has y p) (has x p)) r → (p : ℕ) → Decides (has r p) (Barred rows w p)
   barred-is w x y r all both e p = record { yea = λ h. there (less x y r e p (subst T (sym h) tt)); nay = λ h z. subst T h (back z) }
     where
       seen : (w : ℕ) → T (inRows rows p p) → Covers (getD rows p 0) w → Seen (getD rows p 0) w 0 p

@@ -7,8 +7,10 @@ use mathlib.Core.List.{List}
 use Prim.Native.Nat.{ℕ, _≤_, _<_}
 use lib.Dec.{T}
 use lib.ListN.{length, getD}
-use Rattle.facts.specs.Facts.{has, Word, Covers}
-use Rattle.rules.specs.Table.{Problem, needs, adds, deletes}
+use Rattle.facts.specs.Facts.{has}
+use Rattle.facts.specs.Words.{Word, Covers}
+use Rattle.rules.specs.Table.{Problem, needs}
+use Rattle.rules.specs.Premises.{adds, deletes}
 use Rattle.tables.specs.declared.Action.{Action}
 use Rattle.tables.specs.declared.Loaded.{Loaded}
 use Rattle.tables.specs.Tables.{jobAt}
@@ -29,22 +31,22 @@ pub record Seen (row c d q : ℕ) : Type 0 where
   pub all : Covers row c
 
 -- w has the facts below n that stay beside a job with the conditions c and the deletions d, and no other
-pub record Beside (rows : List ℕ) (c d n w : ℕ) : Type 0 where
+pub record StayBeside (rows : List ℕ) (c d n w : ℕ) : Type 0 where
   pub sound : (q : ℕ) → T (has w q) → Seen (getD rows q 0) c d q
   pub whole : (q : ℕ) → q < n → Seen (getD rows q 0) c d q → T (has w q)
 
 -- row p with what a job adds: p and q are both added, or one is added and the other stands beside
-abbrev pub more : (row a w p q : ℕ) → Bool
-more row a w p q = (has row q || (has a p && (has a q || has w q))) || (has w p && has a q)
+abbrev pub grownRow : (row a w p q : ℕ) → Bool
+grownRow row a w p q = (has row q || (has a p && (has a q || has w q))) || (has w p && has a q)
 
 -- the rows below n have grown so, the others are as they were
 pub record Grown (old : List ℕ) (a w n : ℕ) (new : List ℕ) : Type 0 where
   pub size : length new ≡ 64
-  pub grown : (p : ℕ) → p < n → Word (more (getD old p 0) a w p) (getD new p 0)
+  pub grown : (p : ℕ) → p < n → Word (grownRow (getD old p 0) a w p) (getD new p 0)
   pub rest : (p : ℕ) → n ≤ p → getD new p 0 ≡ getD old p 0
 
 -- the job gives the pair p and q: its conditions are pairwise reachable, and it adds both, or one of them and the other stands beside
-pub record Found (rows : List ℕ) (c a d p q : ℕ) : Type 0 where
+pub record PairFound (rows : List ℕ) (c a d p q : ℕ) : Type 0 where
   pub fit : FitIn rows c 64
   pub how : (T (has a p) × T (has a q)) ⊎ (T (has a p) × Seen (getD rows q 0) c d q) ⊎ (T (has a q) × Seen (getD rows p 0) c d p)
 
@@ -52,17 +54,20 @@ pub record Found (rows : List ℕ) (c a d p q : ℕ) : Type 0 where
 pub record Looked (rows : List ℕ) (c a d : ℕ) (new : List ℕ) : Type 0 where
   pub size : length new ≡ 64
   pub more : (p q : ℕ) → T (inRows rows p q) → T (inRows new p q)
-  pub sound : (p q : ℕ) → T (inRows new p q) → T (inRows rows p q) ⊎ Found rows c a d p q
-  pub whole : (p q : ℕ) → p < 64 → Found rows c a d p q → T (inRows new p q)
+  pub sound : (p q : ℕ) → T (inRows new p q) → T (inRows rows p q) ⊎ PairFound rows c a d p q
+  pub whole : (p q : ℕ) → p < 64 → PairFound rows c a d p q → T (inRows new p q)
 
 -- ── a round over the jobs ──
 
+-- the rows are those of pairs without order
 abbrev pub Sym : List ℕ → Type 0
 Sym rows = (p q : ℕ) → T (inRows rows p q) → T (inRows rows q p)
 
-abbrev pub Sound : Problem → List ℕ → Type 0
-Sound P rows = (p q : ℕ) → T (inRows rows p q) → Reachable P p q
+-- every pair of the rows is reachable
+abbrev pub AllReachable : Problem → List ℕ → Type 0
+AllReachable P rows = (p q : ℕ) → T (inRows rows p q) → Reachable P p q
 
+-- every pair of the one is a pair of the other
 abbrev pub Within : List ℕ → List ℕ → Type 0
 Within new old = (p q : ℕ) → T (inRows new p q) → T (inRows old p q)
 
@@ -72,11 +77,11 @@ pub record ClosedAt (P : Problem) (S : PairSet) (i : ℕ) : Type 0 where
   pub beside : (p q : ℕ) → Fit P S i → adds P i p → (deletes P i q → ⊥) → T (S q q) → ((r : ℕ) → needs P i r → T (S r q)) → T (S p q)
 
 -- the jobs below n have been looked at: all that is found is reachable, and where nothing is found the rules hold of them
-pub record Rounds (P : Problem) (n : ℕ) (old new : List ℕ) : Type 0 where
+pub record PairRound (P : Problem) (n : ℕ) (old new : List ℕ) : Type 0 where
   pub size : length new ≡ 64
   pub more : Within old new
   pub sym : Sym old → Sym new
-  pub sound : Sound P old → Sound P new
+  pub sound : AllReachable P old → AllReachable P new
   pub closes : Sym old → Within new old → (i : ℕ) → i < n → ClosedAt P (inRows old) i
 
 -- ── e-deletion ──

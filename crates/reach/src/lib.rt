@@ -1,20 +1,21 @@
 // Which two facts can stand side by side in a state of a plan.
 ghost use mathlib.Core.Path.{_≡_};
-ghost use mathlib.Core.Bool.{not, _&&_, _||_};
+ghost use mathlib.Core.Bool.{_&&_, _||_};
 ghost use Prim.Native.Nat.{ℕ, _≤_, _<_};
-ghost use lib.Dec.{T, eqb};
+ghost use lib.Dec.{T};
 ghost use lib.ListN.{getD, set, length, replicate};
-ghost use Rattle.facts.specs.Facts.{has, Word, Covers, Decides};
-ghost use Rattle.rules.specs.Table.{InOrder};
+ghost use Rattle.facts.specs.Facts.{has};
+ghost use Rattle.facts.specs.Words.{Word, Covers, Decides};
+ghost use Rattle.rules.specs.Premises.{InOrder};
 ghost use Rattle.tables.specs.Tables.{problem};
 ghost use Rattle.reach.specs.Reach.{Exact};
-ghost use Rattle.reach.specs.Rows.{inRows, FitIn, Seen, Beside, more, Grown, Looked, Rounds, Barred, EJob, EDone};
+ghost use Rattle.reach.specs.Rows.{inRows, FitIn, Seen, StayBeside, grownRow, Grown, Looked, PairRound, Barred, EJob, EDone};
 use tables::Action;
 use tables::Ask;
 use tables::Loaded;
 
 // Bit q of row p: p and q can stand side by side.
-pub struct Pairs {
+pub struct PairRows {
     pub rows: [u64; 64],
 }
 
@@ -30,7 +31,7 @@ fn row_fits(row: u64, c: u64, r: usize) -> bool
 }
 
 // The facts of c are pairwise reachable.
-pub fn fits(s: Pairs, c: u64) -> bool
+pub fn fits(s: PairRows, c: u64) -> bool
     ensures { λ r. ⌜ Decides r (FitIn (s .rows) c 64) ⌝ }
 {
     for r in 0..64 {
@@ -55,25 +56,14 @@ fn stays_beside(row: u64, c: u64, d: u64, q: usize) -> bool
     facts::covers(row, c)
 }
 
-// One fact more, if so.
-fn with_if(w: u64, p: usize, so: bool) -> u64
-    requires { ⌜ p < 64 ⌝ }
-    ensures { λ r. ⌜ Word (λ q. has w q || (so && eqb q p)) r ⌝ }
-{
-    if so {
-        return facts::with(w, p);
-    }
-    w
-}
-
 // The facts that stay beside a job with these conditions and deletions.
-fn beside(s: Pairs, c: u64, d: u64) -> u64
-    ensures { λ r. ⌜ Beside (s .rows) c d 64 r ⌝ }
+fn beside(s: PairRows, c: u64, d: u64) -> u64
+    ensures { λ r. ⌜ StayBeside (s .rows) c d 64 r ⌝ }
 {
     let mut w: u64 = 0;
     for q in 0..64 {
         let hit = stays_beside(s.rows[q], c, d, q);
-        w = with_if(w, q, hit);
+        w = facts::with_if(w, q, hit);
     }
     w
 }
@@ -98,14 +88,14 @@ fn union_if(a: u64, b: u64, so: bool) -> u64
 // Row p with what a job adds, where the facts w stay beside it.
 fn grown_row(row: u64, a: u64, w: u64, p: usize) -> u64
     requires { ⌜ p < 64 ⌝ }
-    ensures { λ r. ⌜ Word (more row a w p) r ⌝ }
+    ensures { λ r. ⌜ Word (grownRow row a w p) r ⌝ }
 {
     let added = union_if(row, union(a, w), facts::has(a, p));
     union_if(added, a, facts::has(w, p))
 }
 
 // Another row p.
-fn with_row(s: Pairs, p: usize, row: u64) -> Pairs
+fn with_row(s: PairRows, p: usize, row: u64) -> PairRows
     requires { ⌜ p < 64 ⌝ }
     ensures { λ r. ⌜ r .rows ≡ set (s .rows) p row ⌝ }
 {
@@ -115,7 +105,7 @@ fn with_row(s: Pairs, p: usize, row: u64) -> Pairs
 }
 
 // All rows with what a job adds, where the facts w stay beside it.
-fn grown(s: Pairs, a: u64, w: u64) -> Pairs
+fn grown(s: PairRows, a: u64, w: u64) -> PairRows
     ensures { λ r. ⌜ Grown (s .rows) a w 64 (r .rows) ⌝ }
 {
     let mut t = s;
@@ -126,7 +116,7 @@ fn grown(s: Pairs, a: u64, w: u64) -> Pairs
 }
 
 // The pairs that a job gives.
-fn look(s: Pairs, c: u64, a: u64, d: u64) -> Pairs
+fn look(s: PairRows, c: u64, a: u64, d: u64) -> PairRows
     ensures { λ r. ⌜ Looked (s .rows) c a d (r .rows) ⌝ }
 {
     if !fits(s, c) {
@@ -136,9 +126,9 @@ fn look(s: Pairs, c: u64, a: u64, d: u64) -> Pairs
 }
 
 // The pairs that the jobs give, one after the other.
-fn round(l: Loaded, q: Ask, s: Pairs) -> Pairs
+fn round(l: Loaded, q: Ask, s: PairRows) -> PairRows
     requires { ⌜ (q .jobs ≤ 24) × InOrder (problem l q) ⌝ }
-    ensures { λ r. ⌜ Rounds (problem l q) (q .jobs) (s .rows) (r .rows) ⌝ }
+    ensures { λ r. ⌜ PairRound (problem l q) (q .jobs) (s .rows) (r .rows) ⌝ }
 {
     let mut t = s;
     let n = q.jobs;
@@ -150,7 +140,7 @@ fn round(l: Loaded, q: Ask, s: Pairs) -> Pairs
 }
 
 // Every pair of t is one of s.
-fn within(t: Pairs, s: Pairs) -> bool
+fn within(t: PairRows, s: PairRows) -> bool
     ensures { λ r. ⌜ Decides r ((p : ℕ) → p < 64 → Covers (getD (s .rows) p 0) (getD (t .rows) p 0)) ⌝ }
 {
     for p in 0..64 {
@@ -162,15 +152,15 @@ fn within(t: Pairs, s: Pairs) -> bool
 }
 
 // The pairs of opening facts.
-fn opened(opening: u64) -> Pairs
+fn opened(opening: u64) -> PairRows
     ensures { λ r. ⌜ Looked (replicate 64 0) 0 opening 0 (r .rows) ⌝ }
 {
     let rows = [0u64; 64];
-    look(Pairs { rows }, 0, opening, 0)
+    look(PairRows { rows }, 0, opening, 0)
 }
 
 // The reachable pairs.
-pub fn reachable(l: Loaded, q: Ask) -> Pairs
+pub fn reachable(l: Loaded, q: Ask) -> PairRows
     requires { ⌜ (q .jobs ≤ 24) × InOrder (problem l q) ⌝ }
     ensures { λ r. ⌜ Exact (problem l q) (inRows (r .rows)) ⌝ }
 {
@@ -185,7 +175,7 @@ pub fn reachable(l: Loaded, q: Ask) -> Pairs
 }
 
 // The facts that can hold and are not reachable with all of w.
-fn barred(s: Pairs, w: u64) -> u64
+fn barred(s: PairRows, w: u64) -> u64
     requires { ⌜ length (s .rows) ≡ 64 ⌝ }
     ensures { λ r. ⌜ ((p : ℕ) → Decides (has r p) (Barred (s .rows) w p)) ⌝ }
 {
@@ -193,7 +183,7 @@ fn barred(s: Pairs, w: u64) -> u64
 }
 
 // The job, but it deletes what it e-deletes.
-fn e_job(s: Pairs, a: Action) -> Action
+fn e_job(s: PairRows, a: Action) -> Action
     ensures { λ r. ⌜ EJob (s .rows) a r ⌝ }
 {
     if !fits(s, a.conditions) {
@@ -210,7 +200,7 @@ fn e_job(s: Pairs, a: Action) -> Action
 }
 
 // The table whose jobs delete what they e-delete by these pairs: it has the same valid plans.
-pub fn e_table(l: Loaded, jobs: usize, s: Pairs) -> Loaded
+pub fn e_table(l: Loaded, jobs: usize, s: PairRows) -> Loaded
     requires { ⌜ jobs ≤ 24 ⌝ }
     ensures { λ r. ⌜ EDone (s .rows) l jobs r ⌝ }
 {

@@ -2,7 +2,8 @@
 use mathlib.Core.Path.{sym, _∙_}
 use mathlib.Core.Bool.{Bool, not, _&&_, _||_, or-assoc, or-false, and-true}
 use Prim.Native.Nat.{ℕ, _+_}
-use Rattle.facts.specs.Facts.{has, Word}
+use Rattle.facts.specs.Facts.{has}
+use Rattle.facts.specs.Words.{Word}
 use Rattle.facts.specs.Least.{any}
 use Rattle.facts.proofs.Least.{any-more}
 use Rattle.facts.proofs.Bools.{and-neither}

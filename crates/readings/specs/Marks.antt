@@ -20,8 +20,8 @@ abbrev pub markAt : (channels : List ℕ) (levels : List ℤ) (facts : List ℕ)
 markAt channels levels facts i = record { channel = getD channels i 0; level = getD levels i (pos 0); fact = getD facts i 0 }
 
 -- the marks of three tables that stand side by side
-abbrev pub listed : (channels : List ℕ) (levels : List ℤ) (facts : List ℕ) (count : ℕ) → Marks
-listed channels levels facts count = record {
+abbrev pub marksOf : (channels : List ℕ) (levels : List ℤ) (facts : List ℕ) (count : ℕ) → Marks
+marksOf channels levels facts count = record {
   count = count;
   room = min (length channels) (min (length levels) (length facts));
   mark = markAt channels levels facts;

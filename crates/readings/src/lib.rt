@@ -5,11 +5,12 @@ ghost use Prim.Native.Nat.{ℕ, _<_, _≤_};
 ghost use lib.Dec.{eqb, ltb};
 ghost use lib.Signed.{leZ};
 ghost use lib.ListN.{length, getD};
-ghost use Rattle.facts.specs.Facts.{has, Word};
+ghost use Rattle.facts.specs.Facts.{has};
+ghost use Rattle.facts.specs.Words.{Word};
 ghost use Rattle.facts.specs.Least.{least, any};
-ghost use Rattle.readings.specs.Answers.{done, refused};
-ghost use Rattle.readings.specs.Marks.{listed, markAt, outside, bad, onChannel, missed, met};
-ghost use Rattle.readings.specs.Opening.{byMarks, Opens};
+ghost use Rattle.refusals.specs.Refusals.{accepted};
+ghost use Rattle.readings.specs.Marks.{marksOf, markAt, outside, bad, onChannel, missed, met};
+ghost use Rattle.readings.specs.Opening.{opened, wordOf, markChecks, openingAnswer, Opens};
 
 // What the probe sends: degrees and per cent.
 #[repr(C)]
@@ -33,31 +34,20 @@ pub struct Opening {
     pub facts: u64,
 }
 
-// Success, with the facts opened.
-fn done(facts: u64) -> Opening
-    ensures { λ a. ⌜ a ≡ done facts ⌝ }
-{
-    Opening {
-        number: 0,
-        place: 0,
-        facts,
-    }
-}
-
-// A refusal, with the facts as given.
-fn refused(number: u8, place: u16, given: u64) -> Opening
-    ensures { λ a. ⌜ a ≡ refused number place given ⌝ }
+// What comes back: on success the facts opened, on refusal those given.
+fn answered(number: u8, place: u16, facts: u64) -> Opening
+    ensures { λ a. ⌜ a ≡ record { number = number; place = place; facts = facts } ⌝ }
 {
     Opening {
         number,
         place,
-        facts: given,
+        facts,
     }
 }
 
 // Mark i of the three tables.
 fn mark_at(channels: &[u8], levels: &[i16], facts: &[u8], i: usize) -> Mark
-    requires { ⌜ i < listed (now channels) (now levels) (now facts) 0 .room ⌝ }
+    requires { ⌜ i < marksOf (now channels) (now levels) (now facts) 0 .room ⌝ }
     ensures { λ k. ⌜ k ≡ markAt (now (channels .entry)) (now (levels .entry)) (now (facts .entry)) i ⌝ }
 {
     Mark {
@@ -118,7 +108,7 @@ fn clear_if_missed(w: u64, temperature: i16, humidity: i16, k: Mark) -> u64
 
 // The lowest mark out of range, or the count.
 fn first_bad(channels: &[u8], levels: &[i16], facts: &[u8], count: usize) -> usize
-    requires { ⌜ count ≤ listed (now channels) (now levels) (now facts) count .room ⌝ }
+    requires { ⌜ count ≤ marksOf (now channels) (now levels) (now facts) count .room ⌝ }
     ensures { λ r. ⌜ r ≡ least (λ i. bad (markAt (now (channels .entry)) (now (levels .entry)) (now (facts .entry)) i)) count ⌝ }
 {
     for i in 0..count {
@@ -152,8 +142,8 @@ fn without_missed(
     facts: &[u8],
     count: usize,
 ) -> u64
-    requires { ⌜ (count ≤ listed (now channels) (now levels) (now facts) count .room) × ((i : ℕ) → i < count → getD (now facts) i 0 < 64) ⌝ }
-    ensures { λ r. ⌜ Word (λ p. has w p && met temperature humidity (listed (now (channels .entry)) (now (levels .entry)) (now (facts .entry)) count) p) r ⌝ }
+    requires { ⌜ (count ≤ marksOf (now channels) (now levels) (now facts) count .room) × ((i : ℕ) → i < count → getD (now facts) i 0 < 64) ⌝ }
+    ensures { λ r. ⌜ Word (λ p. has w p && met temperature humidity (marksOf (now (channels .entry)) (now (levels .entry)) (now (facts .entry)) count) p) r ⌝ }
 {
     let mut left = w;
     for i in 0..count {
@@ -169,7 +159,7 @@ fn without_missed(
 
 // A table is shorter than the count.
 fn short(channels: &[u8], levels: &[i16], facts: &[u8], count: usize) -> bool
-    ensures { λ r. ⌜ r ≡ ltb (listed (now (channels .entry)) (now (levels .entry)) (now (facts .entry)) count .room) count ⌝ }
+    ensures { λ r. ⌜ r ≡ ltb (marksOf (now (channels .entry)) (now (levels .entry)) (now (facts .entry)) count .room) count ⌝ }
 {
     if channels.len() < count {
         return true;
@@ -190,15 +180,16 @@ fn by_marks(
     count: usize,
     given: u64,
 ) -> Opening
-    requires { ⌜ (count ≤ 16) × (count ≤ listed (now channels) (now levels) (now facts) count .room) ⌝ }
-    ensures { λ a. ⌜ a ≡ byMarks temperature humidity (listed (now (channels .entry)) (now (levels .entry)) (now (facts .entry)) count) given ⌝ }
+    requires { ⌜ (count ≤ 16) × (count ≤ marksOf (now channels) (now levels) (now facts) count .room) ⌝ }
+    ensures { λ a. ⌜ a ≡ openingAnswer (markChecks (marksOf (now (channels .entry)) (now (levels .entry)) (now (facts .entry)) count) accepted) (wordOf (opened temperature humidity (marksOf (now (channels .entry)) (now (levels .entry)) (now (facts .entry)) count) given) 64) given ⌝ }
 {
     let lowest = first_bad(channels, levels, facts, count);
     if lowest < count {
-        return refused(18, lowest as u16, given);
+        return answered(18, lowest as u16, given);
     }
     let set = with_marked(given, facts, count);
-    done(without_missed(set, temperature, humidity, channels, levels, facts, count))
+    let opened = without_missed(set, temperature, humidity, channels, levels, facts, count);
+    answered(0, 0, opened)
 }
 
 // Opening facts from a reading. The marks stand side by side in the three tables, the first `count` of each.
@@ -210,21 +201,21 @@ pub fn opening_facts(
     count: usize,
     given: u64,
 ) -> Opening
-    ensures { λ a. ⌜ Opens reading (listed (now (channels .entry)) (now (levels .entry)) (now (facts .entry)) count) given a ⌝ }
+    ensures { λ a. ⌜ Opens reading (marksOf (now (channels .entry)) (now (levels .entry)) (now (facts .entry)) count) given a ⌝ }
 {
     if short(channels, levels, facts, count) {
-        return refused(3, 0, given);
+        return answered(3, 0, given);
     }
     let temperature = tenths::measure(reading.temperature);
     if !temperature.in_range {
-        return refused(17, 0, given);
+        return answered(17, 0, given);
     }
     let humidity = tenths::measure(reading.humidity);
     if !humidity.in_range {
-        return refused(17, 1, given);
+        return answered(17, 1, given);
     }
     if count > 16 {
-        return refused(18, 16, given);
+        return answered(18, 16, given);
     }
     by_marks(
         temperature.tenths,

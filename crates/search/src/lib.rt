@@ -1,28 +1,28 @@
 // The search: the flaw picker and the repair trier.
 ghost use Rattle.lent.specs.Lent.{Lent};
-ghost use Rattle.leaves.specs.Leaf.{Answers, AtRest, SettledBy};
-ghost use Rattle.search.specs.Search.{Some, Chosen, Tries, First, Second};
+ghost use Rattle.leaves.specs.Leaf.{Resolves, AtRest, SettledBy};
+ghost use Rattle.search.specs.Search.{Some, FreeChoice, Tries, FirstRepair, SecondRepair};
 use cells::State;
 use flaws::Choice;
 use lent::Tables;
 
 // The first repair: the job is in, or x is over before y.
 fn taken(s: &mut State, c: Choice)
-    requires { ⌜ Chosen (now s) c ⌝ }
-    ensures { λ _. ⌜ Tries (First c) (now (s .entry)) (now (s .exit)) ⌝ }
+    requires { ⌜ FreeChoice (now s) c ⌝ }
+    ensures { λ _. ⌜ Tries (FirstRepair c) (now (s .entry)) (now (s .exit)) ⌝ }
 {
     cells::put_inside(s, c.x);
-    if c.kind != 2 {
+    if c.kind != flaws::JOB {
         cells::put_sure(s, c.x, c.y);
     }
 }
 
 // The second repair: the job is out, or x is not over before y.
 fn dropped(s: &mut State, c: Choice)
-    requires { ⌜ Chosen (now s) c ⌝ }
-    ensures { λ _. ⌜ Tries (Second c) (now (s .entry)) (now (s .exit)) ⌝ }
+    requires { ⌜ FreeChoice (now s) c ⌝ }
+    ensures { λ _. ⌜ Tries (SecondRepair c) (now (s .entry)) (now (s .exit)) ⌝ }
 {
-    if c.kind == 2 {
+    if c.kind == flaws::JOB {
         cells::put_barred(s, c.x);
         return;
     }
@@ -43,16 +43,16 @@ pub fn pruned(s: &mut State, t: &Tables) -> bool
 // A plan that stays in the pruned state, or that there is none: a flaw is picked.
 fn pick(s: &mut State, alive: bool, t: &Tables, out: &mut [u16; 24]) -> bool
     requires { ⌜ AtRest (now t) (now s) alive × Some (Lent (now t)) ⌝ }
-    ensures { λ r. ⌜ Answers (Lent (now (t .entry))) (now (s .entry)) (now (out .entry)) (now (out .exit)) r ⌝ }
+    ensures { λ r. ⌜ Resolves (Lent (now (t .entry))) (now (s .entry)) (now (out .entry)) (now (out .exit)) r ⌝ }
 {
     if !alive {
         return false;
     }
     let c = flaws::flaw(s, t);
-    if c.kind == 0 {
+    if c.kind == flaws::FINE {
         return leaves::leaf(s, t, out);
     }
-    if c.kind == 1 {
+    if c.kind == flaws::DEAD {
         return false;
     }
     attempt(s, c, t, out)
@@ -60,8 +60,8 @@ fn pick(s: &mut State, alive: bool, t: &Tables, out: &mut [u16; 24]) -> bool
 
 // Its repairs are tried in turn, the first on a copy.
 fn attempt(s: &mut State, c: Choice, t: &Tables, out: &mut [u16; 24]) -> bool
-    requires { ⌜ Chosen (now s) c × Some (Lent (now t)) ⌝ }
-    ensures { λ r. ⌜ Answers (Lent (now (t .entry))) (now (s .entry)) (now (out .entry)) (now (out .exit)) r ⌝ }
+    requires { ⌜ FreeChoice (now s) c × Some (Lent (now t)) ⌝ }
+    ensures { λ r. ⌜ Resolves (Lent (now (t .entry))) (now (s .entry)) (now (out .entry)) (now (out .exit)) r ⌝ }
 {
     let mut u = *s;
     taken(&mut u, c);
@@ -77,7 +77,7 @@ fn attempt(s: &mut State, c: Choice, t: &Tables, out: &mut [u16; 24]) -> bool
 // A plan that stays in the state, or that there is none.
 pub fn find_plan(s: &mut State, t: &Tables, out: &mut [u16; 24]) -> bool
     requires { ⌜ Some (Lent (now t)) ⌝ }
-    ensures { λ r. ⌜ Answers (Lent (now (t .entry))) (now (s .entry)) (now (out .entry)) (now (out .exit)) r ⌝ }
+    ensures { λ r. ⌜ Resolves (Lent (now (t .entry))) (now (s .entry)) (now (out .entry)) (now (out .exit)) r ⌝ }
 {
     let alive = pruned(s, t);
     pick(s, alive, t, out)

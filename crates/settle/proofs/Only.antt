@@ -12,17 +12,17 @@ use Rattle.facts.specs.Facts.{has}
 use Rattle.facts.specs.Least.{any}
 use Rattle.facts.proofs.Bools.{and-l, and-of, eqb-of}
 use Rattle.facts.proofs.Least.{any-of}
-use Rattle.rules.specs.Refusals.{Verdict, accepted, refused, refuseIf, refuseAt, Answers}
-use Rattle.rules.specs.Settling.{Keeps, Settled, Settles, settleChecks}
-use Rattle.rules.proofs.Refused.{if-hit, went-on, answers-yes}
+use Rattle.refusals.specs.Refusals.{Verdict, accepted, refused, refuseIf, refuseAt, Ruled}
+use Rattle.rules.specs.Settling.{Obeys, Settled, Settles, settleChecks}
+use Rattle.refusals.proofs.Refused.{if-hit, went-on, ruled-yes}
 use Rattle.rules.proofs.Settle.{settles-only, itself}
 use Rattle.tables.specs.declared.Loaded.{Loaded}
 use Rattle.tables.specs.declared.Ask.{Ask}
 use Rattle.tables.specs.declared.Answer.{Answer}
-use Rattle.tables.specs.Tables.{problem, answer, callChecks}
+use Rattle.tables.specs.Tables.{problem, answerOf, callChecks}
 use Rattle.tables.proofs.Calls.{call-checks}
 use Rattle.tables.proofs.Fills.{Single, fills-only}
-use Rattle.times.specs.Times.{first, second, wanted}
+use Rattle.times.specs.Times.{pairFirst, pairSecond, wanted}
 use Rattle.settle.specs.Settle.{settlingChecks, Settling}
 use Rattle.settle.specs.Steps.{Settleable}
 use Rattle.settle.proofs.Faults.{short, all-checks, settleable}
@@ -43,13 +43,13 @@ module _ (l : Loaded) (q : Ask) (bytes old : List ℕ) where
       single : Single (all-checks l q bytes (length old)) (λ v value s. (value ≡ 0) × Settles (problem l q) (wanted q bytes) v s) 0 (q .jobs) old
       single _ v w b c s t x y =
           let o = settles-only (problem l q) (wanted q bytes) v w s t (x .1) (y .1) in
-          (o .0, x .0 ∙ sym (y .0), λ z. o .1 (answers-yes 16 v (omega arith) (x .1) z .0))
+          (o .0, x .0 ∙ sym (y .0), λ z. o .1 (ruled-yes 16 v (omega arith) (x .1) z .0))
 
   -- ── a pair of a job with itself ──
 
-  module _ (new : List ℕ) (r : Answer) (a : Settling l q bytes old new r) (k : ℕ) (h : k < q .pairs) (self : first bytes k ≡ second bytes k) where
+  module _ (new : List ℕ) (r : Answer) (a : Settling l q bytes old new r) (k : ℕ) (h : k < q .pairs) (self : pairFirst bytes k ≡ pairSecond bytes k) where
     -- inside the set it can't be met
-    pub itself-inside : C accepted ≡ accepted → r ≡ answer (refused 16 0) 0 0
+    pub itself-inside : C accepted ≡ accepted → r ≡ answerOf (refused 16 0) 0 0
     itself-inside c = by (a .behind c .1)
       where
         ok : Settleable l q bytes (length old)
@@ -58,25 +58,25 @@ module _ (l : Loaded) (q : Ask) (bytes old : List ℕ) where
         on : C (a .v) ≡ a .v
         on = went-on C (all-checks l q bytes (length old)) (ap (λ (v : Verdict). v .number) c) (a .v)
 
-        asked : T (wanted q bytes .pair (first bytes k) (first bytes k))
-        asked = any-of (λ i. eqb (first bytes i) (first bytes k) && eqb (second bytes i) (first bytes k)) (q .pairs) k h (and-of (eqb (first bytes k) (first bytes k)) _ (eqb-refl (first bytes k)) (eqb-of (sym self)))
+        asked : T (wanted q bytes .pair (pairFirst bytes k) (pairFirst bytes k))
+        asked = any-of (λ i. eqb (pairFirst bytes i) (pairFirst bytes k) && eqb (pairSecond bytes i) (pairFirst bytes k)) (q .pairs) k h (and-of (eqb (pairFirst bytes k) (pairFirst bytes k)) _ (eqb-refl (pairFirst bytes k)) (eqb-of (sym self)))
 
-        there : first bytes k < q .jobs
-        there = ok .ready .named (first bytes k) (ok .ready .paired k h .0)
+        there : pairFirst bytes k < q .jobs
+        there = ok .ready .named (pairFirst bytes k) (ok .ready .paired k h .0)
 
-        by : Answers (a .v) (Settled (problem l q) (wanted q bytes) (a .s)) 16 ((y : ℕ → ℕ) → Keeps (problem l q) (wanted q bytes) y → ⊥) → r ≡ answer (refused 16 0) 0 0
-        by (inl (e, s)) = absurd (itself (problem l q) (ok .clear .order) (wanted q bytes) (a .s) (first bytes k) there asked (s .keeps))
-        by (inr (e, n)) = a .says ∙ ap (λ (v : Verdict). answer v (a .value) 0) (on ∙ e)
+        by : Ruled (a .v) (Settled (problem l q) (wanted q bytes) (a .s)) 16 ((y : ℕ → ℕ) → Obeys (problem l q) (wanted q bytes) y → ⊥) → r ≡ answerOf (refused 16 0) 0 0
+        by (inl (e, s)) = absurd (itself (problem l q) (ok .clear .order) (wanted q bytes) (a .s) (pairFirst bytes k) there asked (s .keeps))
+        by (inr (e, n)) = a .says ∙ ap (λ (v : Verdict). answerOf v (a .value) 0) (on ∙ e)
 
     -- outside the set it is refused before that, once checks 3 to 9 have passed
-    pub itself-outside : callChecks (short l q bytes (length old)) (q .bound) l q accepted ≡ accepted → (T (has (q .set) (first bytes k)) → ⊥) → r .number ≡ 15
+    pub itself-outside : callChecks (short l q bytes (length old)) (q .bound) l q accepted ≡ accepted → (T (has (q .set) (pairFirst bytes k)) → ⊥) → r .number ≡ 15
     unfolding settleChecks refuseAt
-    itself-outside c n = ap (λ (x : Answer). x .number) (a .says) ∙ ap (λ (v : Verdict). v .number) (on (settleChecks (problem l q) (q .set) (first bytes) (second bytes) (q .pairs) (a .v)))
+    itself-outside c n = ap (λ (x : Answer). x .number) (a .says) ∙ ap (λ (v : Verdict). v .number) (on (settleChecks (problem l q) (q .set) (pairFirst bytes) (pairSecond bytes) (q .pairs) (a .v)))
         ∙ fifteen _ 601 _ (fifteen _ 600 _ (ap (λ (v : Verdict). v .number) (if-hit _ 15 _ (a .v) strays)))
       where
         on : (v : Verdict) → callChecks (short l q bytes (length old)) (q .bound) l q v ≡ v
         on = went-on (callChecks (short l q bytes (length old)) (q .bound) l q) (call-checks (short l q bytes (length old)) (q .bound) l q) (ap (λ (v : Verdict). v .number) c)
 
-        strays : T (any (λ i. not (has (q .set) (first bytes i) && has (q .set) (second bytes i))) (q .pairs))
-        strays = any-of (λ i. not (has (q .set) (first bytes i) && has (q .set) (second bytes i))) (q .pairs) k h
-            (not-T (has (q .set) (first bytes k) && has (q .set) (second bytes k)) (λ x. n (and-l (has (q .set) (first bytes k)) _ x)))
+        strays : T (any (λ i. not (has (q .set) (pairFirst bytes i) && has (q .set) (pairSecond bytes i))) (q .pairs))
+        strays = any-of (λ i. not (has (q .set) (pairFirst bytes i) && has (q .set) (pairSecond bytes i))) (q .pairs) k h
+            (not-T (has (q .set) (pairFirst bytes k) && has (q .set) (pairSecond bytes k)) (λ x. n (and-l (has (q .set) (pairFirst bytes k)) _ x)))

@@ -7,7 +7,7 @@ use lib.Dec.{ltb}
 use lib.ListN.{length}
 use Rattle.tables.specs.declared.Loaded.{Loaded}
 use Rattle.tables.specs.declared.Ask.{Ask}
-use Rattle.tables.specs.Tables.{Cleared}
+use Rattle.tables.specs.Steps.{Cleared}
 use Rattle.times.specs.Steps.{Ready}
 
 -- what is so where they accept

@@ -6,11 +6,12 @@ ghost use lib.Dec.{ltb};
 ghost use lib.ListN.{length};
 ghost use Rattle.facts.specs.Facts.{has};
 ghost use Rattle.facts.specs.Least.{least};
-ghost use Rattle.rules.specs.Refusals.{accepted};
+ghost use Rattle.refusals.specs.Refusals.{accepted};
 ghost use Rattle.rules.specs.Settling.{settleChecks};
-ghost use Rattle.tables.specs.Tables.{problem, answer, Judges};
+ghost use Rattle.tables.specs.Tables.{problem, answerOf};
+ghost use Rattle.tables.specs.Steps.{Judges};
 ghost use Rattle.tables.specs.declared.Loaded.{Loaded};
-ghost use Rattle.times.specs.Times.{first, second};
+ghost use Rattle.times.specs.Times.{pairFirst, pairSecond};
 ghost use Rattle.settle.specs.Settle.{settlingChecks, Settling};
 ghost use Rattle.settle.specs.Steps.{Settleable};
 use tables::Answer;
@@ -40,7 +41,7 @@ fn pair_outside(set: u64, a: u8, b: u8) -> bool
 // The first of n pairs that does, or n.
 fn first_outside(set: u64, pairs: &[u8], n: usize) -> usize
     requires { ⌜ n ≤ length (now pairs) / 2 ⌝ }
-    ensures { λ r. ⌜ r ≡ least (λ k. not (has set (first (now (pairs .entry)) k) && has set (second (now (pairs .entry)) k))) n ⌝ }
+    ensures { λ r. ⌜ r ≡ least (λ k. not (has set (pairFirst (now (pairs .entry)) k) && has set (pairSecond (now (pairs .entry)) k))) n ⌝ }
 {
     for k in 0..n {
         let at = 2 * k;
@@ -54,7 +55,7 @@ fn first_outside(set: u64, pairs: &[u8], n: usize) -> usize
 // Check 15.
 fn pairs_fault(q: Ask, pairs: &[u8]) -> Answer
     requires { ⌜ (q .jobs ≤ 24) × (q .pairs ≤ length (now pairs) / 2) ⌝ }
-    ensures { λ r. ⌜ ((l : Loaded) → r ≡ answer (settleChecks (problem l q) (q .set) (first (now (pairs .entry))) (second (now (pairs .entry))) (q .pairs) accepted) 0 0) ⌝ }
+    ensures { λ r. ⌜ ((l : Loaded) → r ≡ answerOf (settleChecks (problem l q) (q .set) (pairFirst (now (pairs .entry))) (pairSecond (now (pairs .entry))) (q .pairs) accepted) 0 0) ⌝ }
 {
     if tables::word_strays(q.set, q.jobs) {
         return tables::refuse(15, 601, 0);

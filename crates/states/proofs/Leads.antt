@@ -3,8 +3,8 @@
 use Prim.Native.Nat.{ℕ}
 use native.Mathlib.Omega.{arith}
 use lib.Dec.{T}
-use Rattle.rules.specs.Table.{InOrder}
-use Rattle.states.specs.State.{Search, Leads, St, Must, Out, Never, Low, High}
+use Rattle.rules.specs.Premises.{InOrder}
+use Rattle.states.specs.State.{Search, Leads, St, Must, MustNot, Never, Low, High}
 
 module _ {P : Search} (s : St) {m n : ℕ} (h : Leads P m n) where
   -- m is inside: so is n, and it starts no earlier
@@ -15,7 +15,7 @@ module _ {P : Search} (s : St) {m n : ℕ} (h : Leads P m n) where
   lead-low i Q l k = let im = l .fits .stays .inside m i in omega (arith, h .order Q (l .first) im, l .fits .stays .lo m im)
 
   -- n is out: so is m; m starts no later than n may, and n is not over before it
-  pub lead-out : T (s .barred n) → Out P s m
+  pub lead-out : T (s .barred n) → MustNot P s m
   lead-out b Q l k = l .fits .stays .barred n b (h .joins Q (l .first) k)
 
   pub lead-high : High P s m (s .hi n)

@@ -1,27 +1,28 @@
 -- Words of jobs that a walk sifts, and what they say of the supports of a fact.
 -- Assumes nothing.
 use mathlib.Core.Path.{_≡_, sym, subst}
-use mathlib.Core.Logic.{_⊎_, _≢_, ⊎-elim}
-use mathlib.Core.Bool.{Bool, not, _&&_}
+use mathlib.Core.Logic.{_≢_, ⊎-elim}
+use mathlib.Core.Bool.{Bool, _&&_}
 use mathlib.Core.List.{List}
-use Prim.Native.Nat.{ℕ, _-_, _≤_, _<_, _^_}
+use Prim.Native.Nat.{ℕ, _≤_, _<_, _^_}
 use native.Mathlib.Omega.{arith}
 use native.Mathlib.Decide.{ℕ-discrete}
 use lib.Bits.{bitAnd}
-use lib.Dec.{T, T-not}
-use Rattle.facts.specs.Facts.{has, Decides}
+use lib.Dec.{T}
+use Rattle.facts.specs.Facts.{has}
+use Rattle.facts.specs.Words.{Decides}
 use Rattle.facts.specs.Least.{least}
 use Rattle.facts.specs.Walks.{Walk}
-use Rattle.facts.proofs.Bools.{certain, passes, and-of, and-l, and-r, decides-true}
-use Rattle.facts.proofs.Least.{lowest}
-use Rattle.facts.proofs.Sets.{has-zero, has-and, has-less, some-fact}
+use Rattle.facts.proofs.Bools.{passes, and-of, and-l, and-r, decides-true}
+use Rattle.facts.proofs.Sets.{has-zero, has-and, some-fact}
 use Rattle.facts.proofs.Walks.{Done, done-none, done-next, done-map, done-all, Over, over-all, over-next, over-here}
-use Rattle.states.specs.State.{Search, Killer, MayStart, late}
-use Rattle.cells.specs.View.{view, word, ins, nevers, Noted}
-use Rattle.lent.specs.Lent.{Cols, Deletes}
-use Rattle.lent.specs.Consumers.{who}
+use Rattle.states.specs.State.{Search, Killer, StartMay, surelyLate}
+use Rattle.cells.specs.View.{view, wordAt, ins, nevers}
+use Rattle.jobs.specs.Jobs.{Noted}
+use Rattle.lent.specs.Lent.{Cols, Kills}
+use Rattle.lent.specs.Consumers.{whoAt}
 use Rattle.lent.proofs.Consumers.{other-who, other-not}
-use Rattle.supports.specs.Supports.{Danger, Unsettled, Candidate, Dangerous, Loose, Fair, Sight, Lack}
+use Rattle.supports.specs.Supports.{Danger, Unsettled, Candidate, Dangerous, Loose, FairSupport, Sight}
 
 -- ── a walk that sifts a word ──
 
@@ -53,74 +54,56 @@ both-of a b i h k = subst T (sym (has-and a b i)) (and-of (has a i) (has b i) h 
 both-at : (a b i : ℕ) → T (has (bitAnd a b) i) → T (has a i) × T (has b i)
 both-at a b i h = let x : T (has a i && has b i) = subst T (has-and a b i) h in (and-l (has a i) (has b i) x, and-r (has a i) (has b i) x)
 
-module _ {P : Search} (s : List ℕ) {p : ℕ} (b : ℕ) {kills : ℕ} (k : Cols (Deletes (P .problem) p) kills 24) where
-  killer-is : (d : ℕ) → T (has (bitAnd kills (word s ins)) d) → d ≢ b → Killer P (view s) p (who b) d
+module _ {P : Search} (s : List ℕ) {p : ℕ} (b : ℕ) {kills : ℕ} (k : Cols (Kills (P .problem) p) kills 24) where
+  killer-is : (d : ℕ) → T (has (bitAnd kills (wordAt s ins)) d) → d ≢ b → Killer P (view s) p (whoAt b) d
   killer-is d h n =
-      let x = both-at kills (word s ins) d h in
+      let x = both-at kills (wordAt s ins) d h in
       let z = k .of d (x .0) .1 in
       record { below = z .0; in? = x .1; kills = z .1; other = other-who b d n }
 
-  killer-in : (d : ℕ) → d < 24 → Killer P (view s) p (who b) d → T (has (bitAnd kills (word s ins)) d)
-  killer-in d l x = both-of kills (word s ins) d (k .at d l (x .below, x .kills)) (x .in?)
+  killer-in : (d : ℕ) → d < 24 → Killer P (view s) p (whoAt b) d → T (has (bitAnd kills (wordAt s ins)) d)
+  killer-in d l x = both-of kills (wordAt s ins) d (k .at d l (x .below, x .kills)) (x .in?)
 
-  pub dangers-all : {v w : ℕ} → Sifted (Dangerous s b) (bitAnd kills (word s ins)) v w → v ≡ 0 → Cols (Danger P s p b) w 24
+  pub dangers-all : {v w : ℕ} → Sifted (Dangerous s b) (bitAnd kills (wordAt s ins)) v w → v ≡ 0 → Cols (Danger P s p b) w 24
   dangers-all f e = sifted-all f e (λ d h x. (x .below, record { killer = killer-is d h (x .other); late = x .late }))
       (λ d l x. (killer-in d l (x .killer), record { below = l; other = other-not b d l (x .killer .other); late = x .late }))
 
-  pub unsettled-all : {v w : ℕ} → Sifted (Loose s b) (bitAnd kills (word s ins)) v w → v ≡ 0 → Cols (Unsettled P s p b) w 24
+  pub unsettled-all : {v w : ℕ} → Sifted (Loose s b) (bitAnd kills (wordAt s ins)) v w → v ≡ 0 → Cols (Unsettled P s p b) w 24
   unsettled-all f e = sifted-all f e (λ d h x. (x .below, record { killer = killer-is d h (x .other); free = x .free }))
       (λ d l x. (killer-in d l (x .killer), record { below = l; other = other-not b d l (x .killer .other); free = x .free }))
 
 -- ── candidates ──
 
 -- no danger surely follows the job, in a word and in so many words
-clear-of : {P : Search} {s : List ℕ} {p b A G : ℕ} → Sight P s p b A G → (a : ℕ) → bitAnd (word s (nevers a)) G ≡ 0
-    → (d : ℕ) → Killer P (view s) p (who b) d → T (view s .never d a) → T (late (view s) (who b) d) → ⊥
+clear-of : {P : Search} {s : List ℕ} {p b A G : ℕ} → Sight P s p b A G → (a : ℕ) → bitAnd (wordAt s (nevers a)) G ≡ 0
+    → (d : ℕ) → Killer P (view s) p (whoAt b) d → T (view s .never d a) → T (surelyLate (view s) (whoAt b) d) → ⊥
 clear-of {s = s} {G = G} c a e d k n l =
     let g : T (has G d) = c .dangers .at d (omega (arith, c .few, k .below)) (record { killer = k; late = l }) in
-    has-zero d (subst (λ (x : ℕ). T (has x d)) e (both-of (word s (nevers a)) G d n g))
+    has-zero d (subst (λ (x : ℕ). T (has x d)) e (both-of (wordAt s (nevers a)) G d n g))
 
-clear-in : {P : Search} {s : List ℕ} {p b A G : ℕ} → Sight P s p b A G → (a : ℕ) → Candidate P s p b a → bitAnd (word s (nevers a)) G ≡ 0
-clear-in {s = s} {G = G} c a m = go (ℕ-discrete (bitAnd (word s (nevers a)) G) 0)
+clear-in : {P : Search} {s : List ℕ} {p b A G : ℕ} → Sight P s p b A G → (a : ℕ) → Candidate P s p b a → bitAnd (wordAt s (nevers a)) G ≡ 0
+clear-in {s = s} {G = G} c a m = go (ℕ-discrete (bitAnd (wordAt s (nevers a)) G) 0)
   where
-    go : Dec (bitAnd (word s (nevers a)) G ≡ 0) → bitAnd (word s (nevers a)) G ≡ 0
+    go : Dec (bitAnd (wordAt s (nevers a)) G ≡ 0) → bitAnd (wordAt s (nevers a)) G ≡ 0
     go (yes e) = e
     go (no n) =
-        let i = some-fact (bitAnd (word s (nevers a)) G) n in
-        let k = both-at (word s (nevers a)) G (i .0) (i .1) in
+        let i = some-fact (bitAnd (wordAt s (nevers a)) G) n in
+        let k = both-at (wordAt s (nevers a)) G (i .0) (i .1) in
         let g = c .dangers .of (i .0) (k .1) .1 in
         absurd (m .clear (i .0) (g .killer) (k .0) (g .late))
 
-pub cands-all : {P : Search} (s : List ℕ) {p b A G v w : ℕ} → Sight P s p b A G → Sifted (Fair s b G) A v w → v ≡ 0 → Cols (Candidate P s p b) w 24
+pub cands-all : {P : Search} (s : List ℕ) {p b A G v w : ℕ} → Sight P s p b A G → Sifted (FairSupport s b G) A v w → v ≡ 0 → Cols (Candidate P s p b) w 24
 cands-all s {b = b} {A = A} c f e = sifted-all f e
     (λ a h x. (let z = c .gives .of a h .1 in (x .below, record { below = z .0; gives = z .1; free = x .free; other = other-who b a (x .other); before = x .before; clear = clear-of c a (x .clear) })))
     (λ a l m. (c .gives .at a l (m .below, m .gives), record { below = l; other = other-not b a l (m .other); free = m .free; before = m .before; clear = clear-in c a m }))
 
 module _ {P : Search} (s : List ℕ) {p : ℕ} (b : ℕ) {G : ℕ} (k : Cols (Danger P s p b) G 24) where
   -- where there is a danger, Start is no candidate
-  pub danger-bars : (G ≡ 0 → ⊥) → MayStart P (view s) p (who b) → ⊥
+  pub danger-bars : (G ≡ 0 → ⊥) → StartMay P (view s) p (whoAt b) → ⊥
   danger-bars n m = let i = some-fact G n in let g = k .of (i .0) (i .1) .1 in m .clear (i .0) (g .killer) (g .late)
 
   -- where there is none, it is one if the fact is open
-  pub start-fair : P .problem .count ≤ 24 → G ≡ 0 → T (has (P .problem .opening) p) → MayStart P (view s) p (who b)
+  pub start-fair : P .problem .count ≤ 24 → G ≡ 0 → T (has (P .problem .opening) p) → StartMay P (view s) p (whoAt b)
   start-fair few e o = record { given = o; clear = λ d x l. has-zero d (subst (λ (i : ℕ). T (has i d)) e (k .at d (omega (arith, x .below)) (record { killer = x; late = l }))) }
 
 -- ── the first that is lacking ──
-
-module _ (w v : ℕ) (lw : w < 2 ^ 32) (lv : v < 2 ^ 32) where
-  abbrev more : ℕ
-  more = bitAnd w (2 ^ 32 - 1 - v)
-
-  pub lack-found : {r : ℕ} → r ≡ least (has more) 32 → r < 24 → Lack w v r
-  lack-found {r} e l = record { within = omega arith; here = λ h. and-l (has w r) _ hit; lacks = λ h. T-not (has v r) (and-r (has w r) _ hit); none = λ h. absurd (omega arith) }
-    where
-      hit : T (has w r && not (has v r))
-      hit = subst T (has-less 32 w v r lw lv) (subst (λ (j : ℕ). T (has more j)) (sym e) (lowest (has more) 32 .hit (omega arith)))
-
-  pub lack-none : 24 ≤ least (has more) 32 → Lack w v 24
-  lack-none l = record {
-    within = omega arith;
-    here = λ h. absurd (omega arith);
-    lacks = λ h. absurd (omega arith);
-    none = λ e d h x. certain (has v d) (λ n. lowest (has more) 32 .first d (omega arith) (subst T (sym (has-less 32 w v d lw lv)) (and-of (has w d) _ x n)));
-  }

@@ -2,19 +2,19 @@
 ghost use mathlib.Core.Path.{_≡_};
 ghost use mathlib.Core.List.{List};
 ghost use Prim.Native.Nat.{ℕ, _≤_, _<_};
-ghost use Rattle.facts.specs.Facts.{Decides};
-ghost use Rattle.states.specs.State.{Search, late, done, useless, serves, there, MayStart};
+ghost use Rattle.facts.specs.Words.{Decides};
+ghost use Rattle.states.specs.State.{Search, surelyLate, surelyDone, useless, serves, there, StartMay};
 ghost use Rattle.cells.specs.View.{view};
-ghost use Rattle.lent.specs.Lent.{Cols, Deletes, Lent};
-ghost use Rattle.lent.specs.Consumers.{who};
-ghost use Rattle.supports.specs.Supports.{Danger, Unsettled, Candidate, Dangerous, Loose, Fair, Sight, Lack};
+ghost use Rattle.lent.specs.Lent.{Cols, Kills, Lent};
+ghost use Rattle.lent.specs.Consumers.{whoAt};
+ghost use Rattle.supports.specs.Supports.{Danger, Unsettled, Candidate, Dangerous, Loose, FairSupport, Sight};
 use cells::State;
 use lent::Tables;
 
 // The consumer b is surely there; End always is.
 pub fn there_for(s: &State, b: usize) -> bool
     requires { ⌜ b ≤ 24 ⌝ }
-    ensures { λ r. ⌜ r ≡ there (view (now (s .entry))) (who b) ⌝ }
+    ensures { λ r. ⌜ r ≡ there (view (now (s .entry))) (whoAt b) ⌝ }
 {
     if b == 24 {
         return true;
@@ -25,7 +25,7 @@ pub fn there_for(s: &State, b: usize) -> bool
 // The consumer b is surely not over before d.
 pub fn late_for(s: &State, b: usize, d: usize) -> bool
     requires { ⌜ (b ≤ 24) × (d < 24) ⌝ }
-    ensures { λ r. ⌜ r ≡ late (view (now (s .entry))) (who b) d ⌝ }
+    ensures { λ r. ⌜ r ≡ surelyLate (view (now (s .entry))) (whoAt b) d ⌝ }
 {
     if b == 24 {
         return true;
@@ -36,7 +36,7 @@ pub fn late_for(s: &State, b: usize, d: usize) -> bool
 // The consumer b is surely over before d starts; End never is.
 fn done_for(s: &State, b: usize, d: usize) -> bool
     requires { ⌜ (b ≤ 24) × (d < 24) ⌝ }
-    ensures { λ r. ⌜ r ≡ done (view (now (s .entry))) (who b) d ⌝ }
+    ensures { λ r. ⌜ r ≡ surelyDone (view (now (s .entry))) (whoAt b) d ⌝ }
 {
     if b == 24 {
         return false;
@@ -47,7 +47,7 @@ fn done_for(s: &State, b: usize, d: usize) -> bool
 // Job a is surely not over before the consumer b.
 fn useless_for(s: &State, a: usize, b: usize) -> bool
     requires { ⌜ (b ≤ 24) × (a < 24) ⌝ }
-    ensures { λ r. ⌜ r ≡ useless (view (now (s .entry))) a (who b) ⌝ }
+    ensures { λ r. ⌜ r ≡ useless (view (now (s .entry))) a (whoAt b) ⌝ }
 {
     if b == 24 {
         return false;
@@ -58,7 +58,7 @@ fn useless_for(s: &State, a: usize, b: usize) -> bool
 // Job a is surely over before the consumer b.
 pub fn serves_for(s: &State, a: usize, b: usize) -> bool
     requires { ⌜ (b ≤ 24) × (a < 24) ⌝ }
-    ensures { λ r. ⌜ r ≡ serves (view (now (s .entry))) a (who b) ⌝ }
+    ensures { λ r. ⌜ r ≡ serves (view (now (s .entry))) a (whoAt b) ⌝ }
 {
     if b == 24 {
         return true;
@@ -97,14 +97,14 @@ fn loose_at(s: &State, b: usize, d: usize) -> bool
 // The jobs inside that delete the fact whose deleters are `kills`, and before which the consumer is surely not over.
 pub fn dangers(s: &State, b: usize, kills: u32) -> u32
     requires { ⌜ b ≤ 24 ⌝ }
-    ensures { λ r. ⌜ ((P : Search) (p : ℕ) → Cols (Deletes (P .problem) p) kills 24 → Cols (Danger P (now (s .entry)) p b) r 24) ⌝ }
+    ensures { λ r. ⌜ ((P : Search) (p : ℕ) → Cols (Kills (P .problem) p) kills 24 → Cols (Danger P (now (s .entry)) p b) r 24) ⌝ }
 {
     let mut v = kills & cells::insides(s);
     let mut w: u32 = 0;
     while v != 0 {
-        let d = cells::lowest(v);
-        w = cells::with_if(w, d, danger_at(s, b, d));
-        v = cells::rest(v);
+        let d = jobs::lowest(v);
+        w = jobs::with_if(w, d, danger_at(s, b, d));
+        v = jobs::rest(v);
     }
     w
 }
@@ -112,14 +112,14 @@ pub fn dangers(s: &State, b: usize, kills: u32) -> u32
 // The jobs inside that delete it, and before which the consumer is not surely over.
 pub fn unsettled(s: &State, b: usize, kills: u32) -> u32
     requires { ⌜ b ≤ 24 ⌝ }
-    ensures { λ r. ⌜ ((P : Search) (p : ℕ) → Cols (Deletes (P .problem) p) kills 24 → Cols (Unsettled P (now (s .entry)) p b) r 24) ⌝ }
+    ensures { λ r. ⌜ ((P : Search) (p : ℕ) → Cols (Kills (P .problem) p) kills 24 → Cols (Unsettled P (now (s .entry)) p b) r 24) ⌝ }
 {
     let mut v = kills & cells::insides(s);
     let mut w: u32 = 0;
     while v != 0 {
-        let d = cells::lowest(v);
-        w = cells::with_if(w, d, loose_at(s, b, d));
-        v = cells::rest(v);
+        let d = jobs::lowest(v);
+        w = jobs::with_if(w, d, loose_at(s, b, d));
+        v = jobs::rest(v);
     }
     w
 }
@@ -127,7 +127,7 @@ pub fn unsettled(s: &State, b: usize, kills: u32) -> u32
 // Job a is not out, may be over before the consumer b, and no danger surely follows it.
 fn fair_at(s: &State, b: usize, a: usize, dang: u32) -> bool
     requires { ⌜ b ≤ 24 ⌝ }
-    ensures { λ r. ⌜ Decides r (Fair (now (s .entry)) b dang a) ⌝ }
+    ensures { λ r. ⌜ Decides r (FairSupport (now (s .entry)) b dang a) ⌝ }
 {
     if 24 <= a {
         return false;
@@ -152,9 +152,9 @@ pub fn cands(s: &State, b: usize, adders: u32, dang: u32) -> u32
     let mut v = adders;
     let mut w: u32 = 0;
     while v != 0 {
-        let a = cells::lowest(v);
-        w = cells::with_if(w, a, fair_at(s, b, a, dang));
-        v = cells::rest(v);
+        let a = jobs::lowest(v);
+        w = jobs::with_if(w, a, fair_at(s, b, a, dang));
+        v = jobs::rest(v);
     }
     w
 }
@@ -162,21 +162,10 @@ pub fn cands(s: &State, b: usize, adders: u32, dang: u32) -> u32
 // Start is a candidate: the fact is open and there is no danger.
 pub fn may_start(t: &Tables, p: usize, dang: u32) -> bool
     requires { ⌜ p < 64 ⌝ }
-    ensures { λ r. ⌜ ((P : Search) (s : List ℕ) (b : ℕ) → Lent (now (t .entry)) P → Cols (Danger P s p b) dang 24 → Decides r (MayStart P (view s) p (who b))) ⌝ }
+    ensures { λ r. ⌜ ((P : Search) (s : List ℕ) (b : ℕ) → Lent (now (t .entry)) P → Cols (Danger P s p b) dang 24 → Decides r (StartMay P (view s) p (whoAt b))) ⌝ }
 {
     if dang != 0 {
         return false;
     }
     facts::has(lent::opening(t), p)
-}
-
-// The first of w that is not in v, or 24.
-pub fn lack(w: u32, v: u32) -> usize
-    ensures { λ r. ⌜ Lack w v r ⌝ }
-{
-    let d = cells::lowest(w & !v);
-    if 24 <= d {
-        return 24;
-    }
-    d
 }

@@ -6,25 +6,27 @@ use Prim.Native.Nat.{ℕ}
 use native.Mathlib.Omega.{arith}
 use lib.Dec.{ltb}
 use Rattle.facts.proofs.Bools.{or-l, at-most}
-use Rattle.rules.specs.Refusals.{Verdict, accepted}
+use Rattle.refusals.specs.Refusals.{Verdict, accepted}
 use Rattle.rules.specs.Table.{tableChecks, boundCheck}
-use Rattle.rules.proofs.Refused.{Checks, if-checks, then-checks, table-checks, bound-checks, if-zero, both, stopped, went-on}
+use Rattle.refusals.proofs.Refused.{Checks, if-checks, then-checks, if-zero, both, stopped, went-on}
+use Rattle.rules.proofs.CheckLists.{table-checks, bound-checks}
 use Rattle.rules.proofs.Checked.{Passed, passed, in-order}
 use Rattle.tables.specs.declared.Loaded.{Loaded}
 use Rattle.tables.specs.declared.Ask.{Ask}
 use Rattle.tables.specs.declared.Answer.{Answer}
-use Rattle.tables.specs.Tables.{problem, answer, callChecks, Judges, Cleared}
+use Rattle.tables.specs.Tables.{problem, answerOf, callChecks}
+use Rattle.tables.specs.Steps.{Judges, Cleared}
 use Rattle.tables.proofs.Laws.{said, numbered, accepts}
 
 -- a list of checks whose answer has number 0 accepts
-pub accepts-by : {C : Verdict → Verdict} {r : Answer} → Checks C → r ≡ answer (C accepted) 0 0 → r .number ≡ 0 → C accepted ≡ accepted
+pub accepts-by : {C : Verdict → Verdict} {r : Answer} → Checks C → r ≡ answerOf (C accepted) 0 0 → r .number ≡ 0 → C accepted ≡ accepted
 accepts-by k e z = accepts k (sym (numbered 0 0 e) ∙ z)
 
 -- ── more checks behind a list of checks ──
 
-module _ {C : Verdict → Verdict} {t : Answer} (k : Checks C) (e : t ≡ answer (C accepted) 0 0) where
+module _ {C : Verdict → Verdict} {t : Answer} (k : Checks C) (e : t ≡ answerOf (C accepted) 0 0) where
   -- where the answer refuses, it is the answer whatever comes behind
-  pub stops-there : (t .number ≡ 0 → ⊥) → (next : Verdict) → t ≡ answer (C next) 0 0
+  pub stops-there : (t .number ≡ 0 → ⊥) → (next : Verdict) → t ≡ answerOf (C next) 0 0
   stops-there n next = e ∙ said 0 0 (stopped C k (λ z. n (numbered 0 0 e ∙ z)) next)
 
   -- where it accepts, what comes behind is said
@@ -56,5 +58,5 @@ module _ (short : Bool) (bound : ℕ) (l : Loaded) (q : Ask) where
     }
 
   -- an answer that says what the checks say
-  pub judged-call : {r : Answer} → r ≡ answer (callChecks short bound l q accepted) 0 0 → Judges (callChecks short bound l q accepted) (Cleared short bound l q) r
+  pub judged-call : {r : Answer} → r ≡ answerOf (callChecks short bound l q accepted) 0 0 → Judges (callChecks short bound l q accepted) (Cleared short bound l q) r
   judged-call e = record { says = e; order = λ z. cleared (accepts-by call-checks e z) }

@@ -6,19 +6,19 @@ use mathlib.Core.List.{List}
 use Prim.Native.Nat.{ℕ, _<_}
 use native.Mathlib.Decide.{ℕ-discrete}
 use borrow.Author.Tests.{eq-eqb}
-use Rattle.rules.specs.Refusals.{Verdict, accepted, refused}
-use Rattle.rules.proofs.Refused.{Checks, stopped, went-on}
+use Rattle.refusals.specs.Refusals.{Verdict, accepted, refused}
+use Rattle.refusals.proofs.Refused.{Checks, stopped, went-on}
 use Rattle.tables.specs.declared.Answer.{Answer}
-use Rattle.tables.specs.Tables.{answer, filled, changed, Fills}
+use Rattle.tables.specs.Tables.{answerOf, filled, changed, Fills}
 use Rattle.tables.proofs.Laws.{said, accepts, numbered, answer-no, changed-new, changed-old}
 use Rattle.tables.proofs.Lent.{filled-same}
 
 module _ {C : Verdict → Verdict} (k : Checks C) (A : Verdict → ℕ → (ℕ → ℕ) → Type 0) (nay n : ℕ) (old : List ℕ) where
   -- ── the ways out ──
 
-  module _ {f : Answer} (e : f ≡ answer (C accepted) 0 0) where
+  module _ {f : Answer} (e : f ≡ answerOf (C accepted) 0 0) where
     -- the checks refuse
-    pub fills-refused : {r : Answer} → (f .number ≡ 0 → ⊥) → r ≡ answer (refused (f .number) (f .place)) 0 nay → Fills C A nay n old old r
+    pub fills-refused : {r : Answer} → (f .number ≡ 0 → ⊥) → r ≡ answerOf (refused (f .number) (f .place)) 0 nay → Fills C A nay n old old r
     fills-refused h d = record {
       v = accepted;
       value = 0;
@@ -30,10 +30,10 @@ module _ {C : Verdict → Verdict} (k : Checks C) (A : Verdict → ℕ → (ℕ 
 
     -- with the answer of the checks itself
     pub fills-fault : nay ≡ 0 → (f .number ≡ 0 → ⊥) → Fills C A nay n old old f
-    fills-fault is h = fills-refused h (e ∙ ap (λ (x : ℕ). answer (C accepted) 0 x) (sym is) ∙ said 0 nay (ap (λ (a : Answer). refused (a .number) (a .place)) e))
+    fills-fault is h = fills-refused h (e ∙ ap (λ (x : ℕ). answerOf (C accepted) 0 x) (sym is) ∙ said 0 nay (ap (λ (a : Answer). refused (a .number) (a .place)) e))
 
     -- they accept, and v comes behind them
-    pub fills-behind : {r : Answer} {new : List ℕ} → f .number ≡ 0 → (v : Verdict) (value : ℕ) (s : ℕ → ℕ) → A v value s → r ≡ answer v value nay → new ≡ changed v (filled s n old) old
+    pub fills-behind : {r : Answer} {new : List ℕ} → f .number ≡ 0 → (v : Verdict) (value : ℕ) (s : ℕ → ℕ) → A v value s → r ≡ answerOf v value nay → new ≡ changed v (filled s n old) old
         → Fills C A nay n old new r
     fills-behind z v value s a d w = record {
       v = v;
@@ -86,7 +86,7 @@ module _ {C : Verdict → Verdict} (k : Checks C) (A : Verdict → ℕ → (ℕ 
     -- where the checks refuse, what stands behind them is not looked at
     refused-one : (C accepted .number ≡ 0 → ⊥) → (r ≡ r′) × (new ≡ new′)
     refused-one h = (
-      x .says ∙ ap (λ (v : Verdict). answer v (x .value) nay) same ∙ answer-no (C (y .v)) (x .value) (y .value) nay not ∙ sym (y .says),
+      x .says ∙ ap (λ (v : Verdict). answerOf v (x .value) nay) same ∙ answer-no (C (y .v)) (x .value) (y .value) nay not ∙ sym (y .says),
       x .leaves ∙ changed-old (C (x .v)) _ old (λ z. not (ap (λ (v : Verdict). v .number) (sym same) ∙ z)) ∙ sym (changed-old (C (y .v)) _ old not) ∙ sym (y .leaves),
     )
       where
@@ -99,7 +99,7 @@ module _ {C : Verdict → Verdict} (k : Checks C) (A : Verdict → ℕ → (ℕ 
     -- where they accept, it is one
     passed-one : C accepted .number ≡ 0 → (r ≡ r′) × (new ≡ new′)
     passed-one z = (
-      x .says ∙ ap (λ (v : Verdict). answer (C v) (x .value) nay) (one .0) ∙ ap (λ (b : ℕ). answer (C (y .v)) b nay) (one .1) ∙ sym (y .says),
+      x .says ∙ ap (λ (v : Verdict). answerOf (C v) (x .value) nay) (one .0) ∙ ap (λ (b : ℕ). answerOf (C (y .v)) b nay) (one .1) ∙ sym (y .says),
       x .leaves ∙ ap (λ (v : Verdict). changed v (filled (x .s) n old) old) (went-on C k z (x .v)) ∙ go (ℕ-discrete (x .v .number) 0)
           ∙ ap (λ (v : Verdict). changed v (filled (y .s) n old) old) (one .0 ∙ sym (went-on C k z (y .v))) ∙ sym (y .leaves),
     )

@@ -10,12 +10,12 @@ use borrow.Author.Tests.{eq-eqb, ne-eqb, lt-leb}
 use lib.Dec.{T, eqb, leb, ltb, leb→le, le→leb, ltb→lt, lt→ltb, T-not, not-T}
 use Rattle.facts.proofs.Bools.{and-r, and-of, same, decides-neb, decides-test}
 use Rattle.facts.proofs.Sets.{high-and}
-use Rattle.rules.specs.Refusals.{Verdict, accepted}
+use Rattle.refusals.specs.Refusals.{Verdict, accepted}
 use Rattle.rules.specs.Table.{between, strays}
-use Rattle.rules.proofs.Refused.{Checks, went-on}
+use Rattle.refusals.proofs.Refused.{Checks, went-on}
 use Rattle.rules.proofs.Checked.{strays-fact}
 use Rattle.tables.specs.declared.Answer.{Answer}
-use Rattle.tables.specs.Tables.{answer, changed}
+use Rattle.tables.specs.Tables.{answerOf, changed}
 
 -- no fact of a word of 64 bits is at 64 or above
 pub strays-none : (w : ℕ) → w < 2 ^ 64 → false ≡ strays 64 w
@@ -44,8 +44,8 @@ pub refusal : (n k v w : ℕ) → 0 < n → cond (eqb n 0) w v ≡ v
 refusal n k v w l = ap (λ (b : Bool). cond b w v) (ne-eqb n 0 (λ e. omega arith))
 
 -- two verdicts that are one give one answer
-pub said : (yea nay : ℕ) {v w : Verdict} → v ≡ w → answer w yea nay ≡ answer v yea nay
-said yea nay {v} {w} e = ap (λ (x : Verdict). answer x yea nay) (sym e)
+pub said : (yea nay : ℕ) {v w : Verdict} → v ≡ w → answerOf w yea nay ≡ answerOf v yea nay
+said yea nay {v} {w} e = ap (λ (x : Verdict). answerOf x yea nay) (sym e)
 
 -- a list of checks that says 0 accepts
 pub accepts : {C : Verdict → Verdict} → Checks C → C accepted .number ≡ 0 → C accepted ≡ accepted
@@ -54,11 +54,11 @@ accepts {C} k z = went-on C k z accepted
 -- ── what an answer says of its verdict ──
 
 -- an answer has the number of its verdict
-pub numbered : {v : Verdict} {r : Answer} (yea nay : ℕ) → r ≡ answer v yea nay → r .number ≡ v .number
+pub numbered : {v : Verdict} {r : Answer} (yea nay : ℕ) → r ≡ answerOf v yea nay → r .number ≡ v .number
 numbered yea nay e = ap (λ (x : Answer). x .number) e
 
 -- a refusal returns the same whatever would be returned on success
-pub answer-no : (v : Verdict) (yea else nay : ℕ) → (v .number ≡ 0 → ⊥) → answer v yea nay ≡ answer v else nay
+pub answer-no : (v : Verdict) (yea else nay : ℕ) → (v .number ≡ 0 → ⊥) → answerOf v yea nay ≡ answerOf v else nay
 answer-no v yea else nay n = simp (ne-eqb _ _ n)
 
 -- a verdict that accepts changes lent memory, another leaves it

@@ -10,7 +10,8 @@ use lib.ListN.{length, getD, set, length-set}
 use lib.Seq.{getD-set-same, getD-set-other}
 use Rattle.facts.proofs.Bools.{below-suc}
 use Rattle.tables.specs.declared.Action.{Action}
-use Rattle.tables.specs.Tables.{filled, tabled, noJobs, withJob}
+use Rattle.tables.specs.Tables.{filled, tabled, noJobs}
+use Rattle.tables.specs.Steps.{withJob}
 
 pub length-filled : {A : Type 0} (f : ℕ → A) (n : ℕ) (xs : List A) → length (filled f n xs) ≡ length xs
 unfolding filled

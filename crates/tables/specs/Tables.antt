@@ -1,13 +1,13 @@
 -- The table by value, the numbers asked with, and the answer; the checks 3 to 9 of a call.
 -- Assumes nothing.
 use mathlib.Core.Path.{_≡_}
-use mathlib.Core.Bool.{Bool, false, not, _||_, cond}
+use mathlib.Core.Bool.{Bool, _||_, cond}
 use mathlib.Core.List.{List}
-use Prim.Native.Nat.{ℕ, zero, suc, _≤_}
-use lib.Dec.{T, eqb, ltb}
+use Prim.Native.Nat.{ℕ, zero, suc}
+use lib.Dec.{eqb, ltb}
 use lib.ListN.{getD, set, replicate}
-use Rattle.rules.specs.Refusals.{Verdict, accepted, refuseIf}
-use Rattle.rules.specs.Table.{Problem, InOrder, plain, between, strays, jobStrays, undoes, tableChecks, boundCheck}
+use Rattle.refusals.specs.Refusals.{Verdict, accepted, refuseIf}
+use Rattle.rules.specs.Table.{Problem, plain, tableChecks, boundCheck}
 use Rattle.tables.specs.declared.Action.{Action}
 use Rattle.tables.specs.declared.Loaded.{Loaded}
 use Rattle.tables.specs.declared.Ask.{Ask}
@@ -32,8 +32,8 @@ problem l q =
     (q .atoms) (q .opening) (q .goals)
 
 -- the answer that says a verdict: the number returned is `yea` on success and `nay` on refusal
-abbrev pub answer : Verdict → (yea nay : ℕ) → Answer
-answer v yea nay = record { number = v .number; place = v .place; value = cond (eqb (v .number) 0) yea nay }
+abbrev pub answerOf : Verdict → (yea nay : ℕ) → Answer
+answerOf v yea nay = record { number = v .number; place = v .place; value = cond (eqb (v .number) 0) yea nay }
 
 -- lent memory whose first n places are filled with f 0, f 1, ..; the rest is as it was
 unfoldable pub filled : {A : Type 0} → (ℕ → A) → ℕ → List A → List A
@@ -48,10 +48,6 @@ tabled f n lent = record { jobs = filled f n (replicate 24 noJob); lent = lent }
 abbrev pub noJobs : (lent : ℕ) → Loaded
 noJobs lent = record { jobs = replicate 24 noJob; lent = lent }
 
--- the table with another job i
-abbrev pub withJob : Loaded → ℕ → Action → Loaded
-withJob l i a = record { jobs = set (l .jobs) i a; lent = l .lent }
-
 -- what lent memory holds after the call: changed where the verdict accepts, else as it was
 abbrev pub changed : {A : Type 0} → Verdict → (new old : List A) → List A
 changed v new old = cond (eqb (v .number) 0) new old
@@ -63,34 +59,9 @@ pub record Fills (C : Verdict → Verdict) (A : Verdict → ℕ → (ℕ → ℕ
   pub value : ℕ
   pub s : ℕ → ℕ
   pub behind : C accepted ≡ accepted → A v value s
-  pub says : r ≡ answer (C v) value nay
+  pub says : r ≡ answerOf (C v) value nay
   pub leaves : new ≡ changed (C v) (filled s n old) old
-
--- the test r is t, and where it fails A is so
-pub record Tests (t : Bool) (A : Type 0) (r : Bool) : Type 0 where
-  pub says : r ≡ t
-  pub fails : r ≡ false → A
-
--- the answer says the verdict, and where it accepts A is so
-pub record Judges (v : Verdict) (A : Type 0) (r : Answer) : Type 0 where
-  pub says : r ≡ answer v 0 0
-  pub order : r .number ≡ 0 → A
 
 -- checks 3 to 9 of a call; `short` says that lent memory beside the table is too short, and a call without a bound gives 0
 abbrev pub callChecks : (short : Bool) (bound : ℕ) → Loaded → Ask → Verdict → Verdict
 callChecks short bound l q next = refuseIf (short || ltb (l .lent) (q .jobs)) 3 0 (tableChecks (problem l q) (boundCheck bound next))
-
--- what they give where they accept
-pub record Cleared (short : Bool) (bound : ℕ) (l : Loaded) (q : Ask) : Type 0 where
-  pub room : T short → ⊥
-  pub few : q .jobs ≤ 24
-  pub order : InOrder (problem l q)
-  pub within : bound ≤ 2880
-
--- what checks 6, 7 and 8 look for in job i
-abbrev pub jobFails : (check : ℕ) → Problem → ℕ → Bool
-jobFails check P i = cond (eqb check 6) (not (between 1 960 (P .duration i))) (cond (eqb check 7) (jobStrays P i) (undoes P i))
-
--- a record has a fact at or above the atom count
-abbrev pub strayRecord : (atoms : ℕ) → Action → Bool
-strayRecord atoms a = strays atoms (a .conditions) || (strays atoms (a .additions) || strays atoms (a .deletions))

@@ -4,9 +4,10 @@ ghost use mathlib.Core.Bool.{not, _||_};
 ghost use Prim.Native.Nat.{_≤_, _<_, min};
 ghost use lib.Dec.{ltb};
 ghost use Rattle.facts.specs.Least.{least};
-ghost use Rattle.rules.specs.Refusals.{accepted, refused};
+ghost use Rattle.refusals.specs.Refusals.{accepted, refused};
 ghost use Rattle.rules.specs.Table.{between, strays, jobChecks, boundCheck};
-ghost use Rattle.tables.specs.Tables.{problem, answer, noJobs, jobAt, withJob, jobFails, strayRecord, callChecks, Judges, Cleared};
+ghost use Rattle.tables.specs.Tables.{problem, answerOf, noJobs, jobAt, callChecks};
+ghost use Rattle.tables.specs.Steps.{withJob, jobFails, strayRecord, Judges, Cleared};
 
 // A job as the caller keeps it.
 #[repr(C)]
@@ -84,7 +85,7 @@ pub struct Answer {
 
 // A success that returns this value.
 pub fn done(value: u32) -> Answer
-    ensures { λ r. ⌜ r ≡ answer accepted value 0 ⌝ }
+    ensures { λ r. ⌜ r ≡ answerOf accepted value 0 ⌝ }
 {
     Answer {
         number: 0,
@@ -164,7 +165,7 @@ fn first_job(l: Loaded, q: Ask, check: u8) -> usize
 // A refusal at a place, or none.
 pub fn refuse(number: u8, place: u16, value: u32) -> Answer
     requires { ⌜ 0 < number ⌝ }
-    ensures { λ r. ⌜ r ≡ answer (refused number place) 0 value ⌝ }
+    ensures { λ r. ⌜ r ≡ answerOf (refused number place) 0 value ⌝ }
 {
     Answer {
         number,
@@ -176,7 +177,7 @@ pub fn refuse(number: u8, place: u16, value: u32) -> Answer
 // Checks 6 to 9.
 fn jobs_fault(l: Loaded, q: Ask, bound: u16) -> Answer
     requires { ⌜ (q .jobs ≤ 24) × (q .atoms ≤ 64) ⌝ }
-    ensures { λ r. ⌜ r ≡ answer (jobChecks (problem l q) (boundCheck bound accepted)) 0 0 ⌝ }
+    ensures { λ r. ⌜ r ≡ answerOf (jobChecks (problem l q) (boundCheck bound accepted)) 0 0 ⌝ }
 {
     let n = q.jobs;
     let long = first_job(l, q, 6);

@@ -13,6 +13,7 @@ field b = b % 2 ^ 63 / 2 ^ 52
 abbrev pub digitsOf : ℕ → ℕ
 digitsOf b = b % 2 ^ 52 + min (field b) 1 * 2 ^ 52
 
+-- the place of its lowest digit
 abbrev pub placeOf : ℕ → ℕ
 placeOf b = field b - 1
 

@@ -15,15 +15,16 @@ use Rattle.facts.specs.Facts.{has}
 use Rattle.facts.proofs.Bools.{and-l, and-r, and-of}
 use Rattle.facts.proofs.Least.{any-of, any-at}
 use Rattle.rules.specs.Plans.{Plan, finish}
-use Rattle.rules.specs.Settling.{Keeps, Settled}
-use Rattle.rules.proofs.Sums.{sum, sum-falls, cond-yes, cond-no}
+use Rattle.rules.specs.Settling.{Obeys, Settled}
+use Rattle.rules.proofs.Sums.{sum-falls, cond-yes, cond-no}
+use Rattle.rules.specs.Sums.{sum}
 use Rattle.tables.specs.declared.Loaded.{Loaded}
 use Rattle.tables.specs.declared.Ask.{Ask}
 use Rattle.tables.specs.Tables.{problem}
 use Rattle.entries.specs.Entries.{entry, Same}
 use Rattle.times.specs.declared.Outcome.{Outcome}
-use Rattle.times.specs.Times.{first, second, wanted}
-use Rattle.times.specs.Steps.{asks, Ready, Begins, Ends, Under, Pushes, Pushed, Behind, Hopeless, Round, Rounds, Found}
+use Rattle.times.specs.Times.{pairFirst, pairSecond, wanted}
+use Rattle.times.specs.Steps.{askedFrom, Ready, Begins, EndInTime, Under, Pushes, Pushed, Behind, NoneUnder, Round, Rounds, Solved}
 
 -- a list with one number raised to x
 module _ (s : List ℕ) (b x : ℕ) (room : b < length s) where
@@ -68,51 +69,51 @@ module _ (l : Loaded) (q : Ask) (bytes : List ℕ) where
 
   -- ── with earliest starts and without ──
 
-  no-from : (from : ℕ → ℕ) (y : Plan) → Keeps (problem l q) (asks from q bytes) y → Keeps (problem l q) (wanted q bytes) y
+  no-from : (from : ℕ → ℕ) (y : Plan) → Obeys (problem l q) (askedFrom from q bytes) y → Obeys (problem l q) (wanted q bytes) y
   no-from from y w = record { from = λ j h o. omega arith; order = w .order; ends = w .ends }
 
-  pub found-zero : (from : ℕ → ℕ) (r : Outcome) → ((j : ℕ) → j < q .jobs → from j ≡ 0) → Found (problem l q) (asks from q bytes) r → Found (problem l q) (wanted q bytes) r
+  pub found-zero : (from : ℕ → ℕ) (r : Outcome) → ((j : ℕ) → j < q .jobs → from j ≡ 0) → Solved (problem l q) (askedFrom from q bytes) r → Solved (problem l q) (wanted q bytes) r
   found-zero from r zero f = record {
     some = λ e. (let s = f .some e in record { keeps = no-from from _ (s .keeps); least = λ y w. s .least y (at-zero y w); out = s .out });
     none = λ e y w. f .none e y (at-zero y w);
   }
     where
-      at-zero : (y : Plan) → Keeps (problem l q) (wanted q bytes) y → Keeps (problem l q) (asks from q bytes) y
+      at-zero : (y : Plan) → Obeys (problem l q) (wanted q bytes) y → Obeys (problem l q) (askedFrom from q bytes) y
       at-zero y w = record { from = λ j h o. omega (arith, zero j h); order = w .order; ends = w .ends }
 
   module _ (ready : Ready q bytes) where
-    pub first-job : (k : ℕ) → k < q .pairs → first bytes k < q .jobs
-    first-job k h = ready .named (first bytes k) (ready .paired k h .0)
+    pub first-job : (k : ℕ) → k < q .pairs → pairFirst bytes k < q .jobs
+    first-job k h = ready .named (pairFirst bytes k) (ready .paired k h .0)
 
-    pub second-job : (k : ℕ) → k < q .pairs → second bytes k < q .jobs
-    second-job k h = ready .named (second bytes k) (ready .paired k h .1)
+    pub second-job : (k : ℕ) → k < q .pairs → pairSecond bytes k < q .jobs
+    second-job k h = ready .named (pairSecond bytes k) (ready .paired k h .1)
 
     -- what is asked of pair k
-    kept : (y : Plan) → Keeps (problem l q) (wanted q bytes) y → (k : ℕ) → k < q .pairs → finish (problem l q) y (first bytes k) ≤ y (second bytes k)
+    kept : (y : Plan) → Obeys (problem l q) (wanted q bytes) y → (k : ℕ) → k < q .pairs → finish (problem l q) y (pairFirst bytes k) ≤ y (pairSecond bytes k)
     kept y w k h =
         omega (
           arith,
-          w .order (first bytes k) (second bytes k) (first-job k h) (second-job k h)
-              (any-of (λ i. eqb (first bytes i) (first bytes k) && eqb (second bytes i) (second bytes k)) (q .pairs) k h (and-of (eqb (first bytes k) (first bytes k)) _ (eqb-refl (first bytes k)) (eqb-refl (second bytes k)))),
+          w .order (pairFirst bytes k) (pairSecond bytes k) (first-job k h) (second-job k h)
+              (any-of (λ i. eqb (pairFirst bytes i) (pairFirst bytes k) && eqb (pairSecond bytes i) (pairSecond bytes k)) (q .pairs) k h (and-of (eqb (pairFirst bytes k) (pairFirst bytes k)) _ (eqb-refl (pairFirst bytes k)) (eqb-refl (pairSecond bytes k)))),
         )
 
     -- ── one pair more ──
 
     module _ (t : Plan) (s : List ℕ) (k : ℕ) (h : k < q .pairs) (f : Pushed l q bytes t (entry s)) (r : Outcome)
-        (p : Pushes s (second bytes k) (finish (problem l q) (entry s) (first bytes k)) (problem l q .duration (second bytes k)) (q .bound) r) where
+        (p : Pushes s (pairSecond bytes k) (finish (problem l q) (entry s) (pairFirst bytes k)) (problem l q .duration (pairSecond bytes k)) (q .bound) r) where
       abbrev a : ℕ
-      a = first bytes k
+      a = pairFirst bytes k
 
       abbrev b : ℕ
-      b = second bytes k
+      b = pairSecond bytes k
 
       abbrev x : ℕ
       x = finish (problem l q) (entry s) a
 
-      x-under : (y : Plan) → Keeps (problem l q) (wanted q bytes) y → Under q t y → x ≤ y b
+      x-under : (y : Plan) → Obeys (problem l q) (wanted q bytes) y → Under q t y → x ≤ y b
       x-under y w u = omega (arith, kept y w k h, f .under y w u a (first-job k h) (ready .paired k h .0))
 
-      pub pair-none : r .ok ≡ false → Hopeless l q bytes t
+      pub pair-none : r .ok ≡ false → NoneUnder l q bytes t
       pair-none e y w u = omega (arith, p .none e, x-under y w u, w .ends b (second-job k h) (ready .paired k h .1))
 
       pub pair-pushed : r .ok ≡ true → Pushed l q bytes t (entry (r .starts))
@@ -140,13 +141,13 @@ module _ (l : Loaded) (q : Ask) (bytes : List ℕ) where
               go (yes n) = omega (arith, there, short, f .ends b (second-job k h) n)
               go (no n) = omega (arith, there, short, over)
 
-          under : (y : Plan) → Keeps (problem l q) (wanted q bytes) y → Under q t y → (j : ℕ) → j < q .jobs → T (has (q .set) j) → Dec (j ≡ b) → entry (raised s b x (p .room)) j ≤ y j
+          under : (y : Plan) → Obeys (problem l q) (wanted q bytes) y → Under q t y → (j : ℕ) → j < q .jobs → T (has (q .set) j) → Dec (j ≡ b) → entry (raised s b x (p .room)) j ≤ y j
           under y w u j m o (no n) = rw (raised-else s b x (p .room) j n) (f .under y w u j m o)
           under y w u j m o (yes i) = rw i (omega (arith, there, x-under y w u, f .under y w u b (second-job k h) (ready .paired k h .1)))
 
       pub pair-behind : Behind l q bytes t (entry s) k → r .ok ≡ true → Behind l q bytes t (entry (r .starts)) (k + 1)
       pair-behind g e = rw (p .some e .0) (below-more _ k
-          (λ i m. omega (arith, g i m, raised-le s b x (p .room) (second bytes i)))
+          (λ i m. omega (arith, g i m, raised-le s b x (p .room) (pairSecond bytes i)))
           (omega (arith, raised-there s b x (p .room), f .later a (first-job k h))))
 
     -- ── a round more ──
@@ -161,7 +162,7 @@ module _ (l : Loaded) (q : Ask) (bytes : List ℕ) where
       pub round-last : r .ok ≡ true → Same s (r .starts) (q .jobs) → Rounds l q bytes (entry t) r
       round-last e o = record {
         pushed = round-more;
-        behind = λ d i h. rw (← o (first bytes i) (first-job i h)) (g .behind e i h);
+        behind = λ d i h. rw (← o (pairFirst bytes i) (first-job i h)) (g .behind e i h);
         none = λ n. absurd (true≢false (sym e ∙ n));
       }
 
@@ -181,24 +182,24 @@ module _ (l : Loaded) (q : Ask) (bytes : List ℕ) where
       begun : (j : ℕ) → j < q .jobs → T (has (q .set) j) → entry t j ≡ from j
       begun j h o = begins j h ∙ cond-yes (has (q .set) j) (from j) 65535 o
 
-      from-under : (y : Plan) → Keeps (problem l q) (asks from q bytes) y → Under q (entry t) y
+      from-under : (y : Plan) → Obeys (problem l q) (askedFrom from q bytes) y → Under q (entry t) y
       from-under y w j h o = omega (arith, begun j h o, w .from j h o)
 
       -- a job of the set that ends late at its earliest
-      pub found-late : (r : Outcome) → r .ok ≡ false → (Ends l q (entry t) (q .jobs) → ⊥) → Found (problem l q) (asks from q bytes) r
+      pub found-late : (r : Outcome) → r .ok ≡ false → (EndInTime l q (entry t) (q .jobs) → ⊥) → Solved (problem l q) (askedFrom from q bytes) r
       found-late r e n = record {
         some = λ o. absurd (true≢false (sym o ∙ e));
         none = λ o y w. n (λ j h i. omega (arith, w .ends j h i, from-under y w j h i));
       }
 
-      pub found : (r : Outcome) → Ends l q (entry t) (q .jobs) → Rounds l q bytes (entry t) r → Found (problem l q) (asks from q bytes) r
+      pub found : (r : Outcome) → EndInTime l q (entry t) (q .jobs) → Rounds l q bytes (entry t) r → Solved (problem l q) (askedFrom from q bytes) r
       found r d g = record { some = some; none = λ o y w. g .none o y (no-from from y w) (from-under y w) }
         where
-          some : r .ok ≡ true → Settled (problem l q) (asks from q bytes) (entry (r .starts))
+          some : r .ok ≡ true → Settled (problem l q) (askedFrom from q bytes) (entry (r .starts))
           some e = record {
             keeps = record {
               from = λ j h i. omega (arith, begun j h i, p .later j h);
-              order = λ a b h i w. order a b (any-at (λ k. eqb (first bytes k) a && eqb (second bytes k) b) (q .pairs) w);
+              order = λ a b h i w. order a b (any-at (λ k. eqb (pairFirst bytes k) a && eqb (pairSecond bytes k) b) (q .pairs) w);
               ends = λ j h i. ends j h i (decLt (entry t j) (entry (r .starts) j));
             };
             least = λ y w j h i. p .under y (no-from from y w) (from-under y w) j h i;
@@ -212,7 +213,7 @@ module _ (l : Loaded) (q : Ask) (bytes : List ℕ) where
               ends j h i (yes m) = p .ends j h m
               ends j h i (no m) = omega (arith, d j h i)
 
-              order : (a b : ℕ) → (k : ℕ) × (k < q .pairs) × T (eqb (first bytes k) a && eqb (second bytes k) b) → finish (problem l q) (entry (r .starts)) a + 0 ≤ entry (r .starts) b
+              order : (a b : ℕ) → (k : ℕ) × (k < q .pairs) × T (eqb (pairFirst bytes k) a && eqb (pairSecond bytes k) b) → finish (problem l q) (entry (r .starts)) a + 0 ≤ entry (r .starts) b
               order a b (k, h, o) =
-                  rw (← eqb→eq (first bytes k) a (and-l (eqb (first bytes k) a) _ o), ← eqb→eq (second bytes k) b (and-r (eqb (first bytes k) a) _ o))
+                  rw (← eqb→eq (pairFirst bytes k) a (and-l (eqb (pairFirst bytes k) a) _ o), ← eqb→eq (pairSecond bytes k) b (and-r (eqb (pairFirst bytes k) a) _ o))
                   (omega (arith, g .behind e k h))

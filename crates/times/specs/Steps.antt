@@ -7,31 +7,32 @@ use Prim.Native.Nat.{ℕ, _+_, _/_, _≤_, _<_, max}
 use lib.Dec.{T}
 use lib.ListN.{length, set}
 use Rattle.facts.specs.Facts.{has}
-use Rattle.rules.specs.Table.{Problem, Below}
+use Rattle.rules.specs.Table.{Problem}
+use Rattle.rules.specs.Premises.{Below}
 use Rattle.rules.specs.Plans.{Plan, finish}
-use Rattle.rules.specs.Settling.{Asked, Keeps, Settled}
+use Rattle.rules.specs.Settling.{Asked, Obeys, Settled}
 use Rattle.tables.specs.declared.Loaded.{Loaded}
 use Rattle.tables.specs.declared.Ask.{Ask}
 use Rattle.tables.specs.Tables.{problem}
 use Rattle.entries.specs.Entries.{entry}
 use Rattle.times.specs.declared.Outcome.{Outcome}
-use Rattle.times.specs.Times.{first, second, wanted}
+use Rattle.times.specs.Times.{pairFirst, pairSecond, wanted}
 
 -- the same with earliest starts
-abbrev pub asks : (from : ℕ → ℕ) → Ask → (bytes : List ℕ) → Asked
-asks from q bytes = record { set = wanted q bytes .set; pair = wanted q bytes .pair; from = from; bound = q .bound }
+abbrev pub askedFrom : (from : ℕ → ℕ) → Ask → (bytes : List ℕ) → Asked
+askedFrom from q bytes = record { set = wanted q bytes .set; pair = wanted q bytes .pair; from = from; bound = q .bound }
 
 -- the set names jobs of the table, and every pair two jobs of the set
 pub record Ready (q : Ask) (bytes : List ℕ) : Type 0 where
   pub few : q .jobs ≤ 24
   pub lent : q .pairs ≤ length bytes / 2
   pub named : Below (q .jobs) (q .set)
-  pub paired : (k : ℕ) → k < q .pairs → T (has (q .set) (first bytes k)) × T (has (q .set) (second bytes k))
+  pub paired : (k : ℕ) → k < q .pairs → T (has (q .set) (pairFirst bytes k)) × T (has (q .set) (pairSecond bytes k))
 
 -- the settled starts, or that there are none
-pub record Found (P : Problem) (a : Asked) (r : Outcome) : Type 0 where
+pub record Solved (P : Problem) (a : Asked) (r : Outcome) : Type 0 where
   pub some : r .ok ≡ true → Settled P a (entry (r .starts))
-  pub none : r .ok ≡ false → (y : Plan) → Keeps P a y → ⊥
+  pub none : r .ok ≡ false → (y : Plan) → Obeys P a y → ⊥
 
 -- ── the steps ──
 
@@ -40,8 +41,8 @@ abbrev pub Begins : Ask → (from : ℕ → ℕ) → (starts : List ℕ) → ℕ
 Begins q from starts k = (j : ℕ) → j < k → entry starts j ≡ cond (has (q .set) j) (from j) 65535
 
 -- the jobs of the set below k end by the bound
-abbrev pub Ends : Loaded → Ask → Plan → ℕ → Type 0
-Ends l q t k = (j : ℕ) → j < k → T (has (q .set) j) → finish (problem l q) t j ≤ q .bound
+abbrev pub EndInTime : Loaded → Ask → Plan → ℕ → Type 0
+EndInTime l q t k = (j : ℕ) → j < k → T (has (q .set) j) → finish (problem l q) t j ≤ q .bound
 
 -- no job of the set starts later than in y
 abbrev pub Under : Ask → (t y : Plan) → Type 0
@@ -58,24 +59,24 @@ pub record Pushed (l : Loaded) (q : Ask) (bytes : List ℕ) (t s : Plan) : Type 
   pub later : (j : ℕ) → j < q .jobs → t j ≤ s j
   pub ends : (j : ℕ) → j < q .jobs → t j < s j → finish (problem l q) s j ≤ q .bound
   pub out : (j : ℕ) → (T (has (q .set) j) → ⊥) → s j ≡ t j
-  pub under : (y : Plan) → Keeps (problem l q) (wanted q bytes) y → Under q t y → Under q s y
+  pub under : (y : Plan) → Obeys (problem l q) (wanted q bytes) y → Under q t y → Under q s y
 
 -- in s the second job of each pair below k starts when the first finishes in t, or later
 abbrev pub Behind : Loaded → Ask → (bytes : List ℕ) → (t s : Plan) → ℕ → Type 0
-Behind l q bytes t s k = (i : ℕ) → i < k → finish (problem l q) t (first bytes i) ≤ s (second bytes i)
+Behind l q bytes t s k = (i : ℕ) → i < k → finish (problem l q) t (pairFirst bytes i) ≤ s (pairSecond bytes i)
 
 -- none of the starts that keep what is asked has t under it
-abbrev pub Hopeless : Loaded → Ask → (bytes : List ℕ) → Plan → Type 0
-Hopeless l q bytes t = (y : Plan) → Keeps (problem l q) (wanted q bytes) y → Under q t y → ⊥
+abbrev pub NoneUnder : Loaded → Ask → (bytes : List ℕ) → Plan → Type 0
+NoneUnder l q bytes t = (y : Plan) → Obeys (problem l q) (wanted q bytes) y → Under q t y → ⊥
 
 -- a round from t
 pub record Round (l : Loaded) (q : Ask) (bytes : List ℕ) (t : Plan) (r : Outcome) : Type 0 where
   pub pushed : r .ok ≡ true → Pushed l q bytes t (entry (r .starts))
   pub behind : r .ok ≡ true → Behind l q bytes t (entry (r .starts)) (q .pairs)
-  pub none : r .ok ≡ false → Hopeless l q bytes t
+  pub none : r .ok ≡ false → NoneUnder l q bytes t
 
 -- all rounds from t
 pub record Rounds (l : Loaded) (q : Ask) (bytes : List ℕ) (t : Plan) (r : Outcome) : Type 0 where
   pub pushed : r .ok ≡ true → Pushed l q bytes t (entry (r .starts))
   pub behind : r .ok ≡ true → Behind l q bytes (entry (r .starts)) (entry (r .starts)) (q .pairs)
-  pub none : r .ok ≡ false → Hopeless l q bytes t
+  pub none : r .ok ≡ false → NoneUnder l q bytes t

@@ -3,16 +3,17 @@
 use mathlib.Core.List.{List}
 use Prim.Native.Nat.{ℕ, _+_, _*_}
 use lib.ListN.{getD}
-use Rattle.rules.specs.Settling.{Asked, asked}
+use Rattle.rules.specs.Settling.{Asked, askedBy}
 use Rattle.tables.specs.declared.Ask.{Ask}
 
 -- pair k is two bytes, first then second
-abbrev pub first : (bytes : List ℕ) → ℕ → ℕ
-first bytes k = getD bytes (2 * k) 0
+abbrev pub pairFirst : (bytes : List ℕ) → ℕ → ℕ
+pairFirst bytes k = getD bytes (2 * k) 0
 
-abbrev pub second : (bytes : List ℕ) → ℕ → ℕ
-second bytes k = getD bytes (2 * k + 1) 0
+-- the second job of pair k
+abbrev pub pairSecond : (bytes : List ℕ) → ℕ → ℕ
+pairSecond bytes k = getD bytes (2 * k + 1) 0
 
 -- what is asked: 01 gives no earliest starts
 abbrev pub wanted : Ask → (bytes : List ℕ) → Asked
-wanted q bytes = asked (q .set) (first bytes) (second bytes) (q .pairs) (q .bound)
+wanted q bytes = askedBy (q .set) (pairFirst bytes) (pairSecond bytes) (q .pairs) (q .bound)

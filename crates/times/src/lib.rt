@@ -3,10 +3,11 @@ ghost use mathlib.Core.Path.{_≡_};
 ghost use mathlib.Core.Bool.{cond, _&&_};
 ghost use Prim.Native.Nat.{_+_, _≤_, _<_};
 ghost use lib.Dec.{ltb};
-ghost use Rattle.facts.specs.Facts.{has, Decides};
+ghost use Rattle.facts.specs.Facts.{has};
+ghost use Rattle.facts.specs.Words.{Decides};
 ghost use Rattle.tables.specs.Tables.{problem};
 ghost use Rattle.entries.specs.Entries.{entry};
-ghost use Rattle.times.specs.Steps.{asks, Ready, Begins, Ends, Pushes, Round, Rounds, Found};
+ghost use Rattle.times.specs.Steps.{askedFrom, Ready, Begins, EndInTime, Pushes, Round, Rounds, Solved};
 use tables::Ask;
 use tables::Loaded;
 
@@ -126,7 +127,7 @@ fn late(set: u64, j: usize, start: u16, span: u16, bound: u16) -> bool
 // All jobs of the set end by the bound.
 fn all_end(l: Loaded, q: Ask, t: [u16; 24]) -> bool
     requires { ⌜ q .jobs ≤ 24 ⌝ }
-    ensures { λ r. ⌜ Decides r (Ends l q (entry t) (q .jobs)) ⌝ }
+    ensures { λ r. ⌜ Decides r (EndInTime l q (entry t) (q .jobs)) ⌝ }
 {
     let n = q.jobs;
     for j in 0..n {
@@ -141,7 +142,7 @@ fn all_end(l: Loaded, q: Ask, t: [u16; 24]) -> bool
 // The least starts from the earliest starts `lo`.
 pub fn settle_from(l: Loaded, q: Ask, lo: [u16; 24], pairs: &[u8]) -> Outcome
     requires { ⌜ Ready q (now pairs) ⌝ }
-    ensures { λ r. ⌜ Found (problem l q) (asks (entry lo) q (now (pairs .entry))) r ⌝ }
+    ensures { λ r. ⌜ Solved (problem l q) (askedFrom (entry lo) q (now (pairs .entry))) r ⌝ }
 {
     let t = begin(q, lo);
     if all_end(l, q, t) {

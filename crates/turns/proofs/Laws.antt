@@ -7,7 +7,8 @@ use mathlib.Core.List.{List}
 use Prim.Native.Nat.{ℕ, _+_, _≤_, _<_, _^_}
 use native.Mathlib.Omega.{arith}
 use lib.Dec.{T, eqb, eqb→eq, eqb-refl}
-use Rattle.facts.specs.Facts.{has, Word}
+use Rattle.facts.specs.Facts.{has}
+use Rattle.facts.specs.Words.{Word}
 use Rattle.facts.specs.Least.{least}
 use Rattle.facts.specs.Walks.{Walk}
 use Rattle.facts.proofs.Bools.{same, or-l, or-r, or-cases, below-suc}
@@ -20,7 +21,7 @@ use Rattle.entries.specs.Entries.{entry}
 use Rattle.states.specs.State.{Leads}
 use Rattle.turns.specs.declared.Guess.{Guess}
 use Rattle.turns.specs.Turns.{Turn}
-use Rattle.turns.specs.Checked.{AllBack, Moved, Stems, Image, TurnsBelow, MovesTo, Leader}
+use Rattle.turns.specs.Checked.{AllInverse, Moved, Stems, Image, TurnsBelow, MovesTo, Leader}
 use Rattle.turns.proofs.Leading.{turn-leads}
 
 -- one more number of which A is so
@@ -67,7 +68,7 @@ pub walked-all : {fact : List ℕ} {w r v : ℕ} → Walked fact w r v → v ≡
 walked-all k e = record { of = k .of; at = done-all (k .done) e }
 
 -- where every fact is in its place again, a word has what its image has
-pub mapped : {fact : List ℕ} {w v : ℕ} → AllBack fact 64 → Image fact w v → (p : ℕ) → p < 64 → has v (entry fact p) ≡ has w p
+pub mapped : {fact : List ℕ} {w v : ℕ} → AllInverse fact 64 → Image fact w v → (p : ℕ) → p < 64 → has v (entry fact p) ≡ has w p
 mapped {fact} {w} {v} b m p l = same (has v (entry fact p)) (has w p) back (λ h. m .at p h (b p l .below))
   where
     back : T (has v (entry fact p)) → T (has w p)
@@ -78,7 +79,7 @@ mapped {fact} {w} {v} b m p l = same (has v (entry fact p)) (has w p) back (λ h
 
 -- ── the turn ──
 
-pub turn-of : (l : Loaded) (q : Ask) (g : Guess) → AllBack (g .fact) 64 → Image (g .fact) (q .opening) (q .opening) → Image (g .fact) (q .goals) (q .goals)
+pub turn-of : (l : Loaded) (q : Ask) (g : Guess) → AllInverse (g .fact) 64 → Image (g .fact) (q .opening) (q .opening) → Image (g .fact) (q .goals) (q .goals)
     → TurnsBelow l (q .jobs) g (q .jobs) → Turn (problem l q) (entry (g .to)) (entry (g .to)) (entry (g .fact))
 turn-of l q g b o w t = record {
   below = λ j h. t j h .below;

@@ -8,12 +8,13 @@ use native.Mathlib.Decide.{decLt}
 use lib.Dec.{T, eqb}
 use mathlib.Core.Bool.{not}
 use Rattle.facts.specs.Facts.{has}
-use Rattle.rules.specs.Table.{Problem, InOrder, needs, adds, deletes}
+use Rattle.rules.specs.Table.{Problem, needs}
+use Rattle.rules.specs.Premises.{InOrder, adds, deletes, Clear}
 use Rattle.rules.specs.Plans.{Plan, inPlan, In, Over, Apart, Valid}
 use Rattle.rules.specs.Supports.{Consumer, job, end, Support, start, nobody, by}
 use Rattle.rules.specs.Order.{rank, First}
 use Rattle.rules.proofs.Clash.{Spoils, interfere-at, ordered}
-use Rattle.rules.proofs.Supported.{Clear, Supports, Supported, Backed, backed, valid}
+use Rattle.rules.proofs.Supported.{Supports, Supported, Backed, backed, valid}
 use Rattle.turns.specs.Turns.{Turn, turned, Moves}
 
 module _ {P : Problem} (ok : InOrder P) {to back fact : ℕ → ℕ} (t : Turn P to back fact) where

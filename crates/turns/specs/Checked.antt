@@ -6,7 +6,7 @@ use mathlib.Core.List.{List}
 use Prim.Native.Nat.{ℕ, _≤_, _<_}
 use lib.Dec.{T}
 use Rattle.facts.specs.Facts.{has}
-use Rattle.rules.specs.Table.{InOrder}
+use Rattle.rules.specs.Premises.{InOrder}
 use Rattle.tables.specs.Tables.{jobAt, problem}
 use Rattle.tables.specs.declared.Action.{Action}
 use Rattle.tables.specs.declared.Loaded.{Loaded}
@@ -18,13 +18,13 @@ use Rattle.turns.specs.declared.Guess.{Guess}
 -- ── facts ──
 
 -- a fact takes the place of p, and p its place
-pub record Back (fact : List ℕ) (p : ℕ) : Type 0 where
+pub record Inverse (fact : List ℕ) (p : ℕ) : Type 0 where
   pub below : entry fact p < 64
   pub again : entry fact (entry fact p) ≡ p
 
 -- so it is for the facts below n
-abbrev pub AllBack : List ℕ → ℕ → Type 0
-AllBack fact n = (p : ℕ) → p < n → Back fact p
+abbrev pub AllInverse : List ℕ → ℕ → Type 0
+AllInverse fact n = (p : ℕ) → p < n → Inverse fact p
 
 -- r is the word w with the fact that takes the place of p
 pub record Moved (fact : List ℕ) (p w r : ℕ) : Type 0 where

@@ -5,7 +5,7 @@ ghost use Prim.Native.Nat.{_≤_, _<_};
 ghost use Rattle.tables.specs.Tables.{problem};
 ghost use Rattle.entries.specs.Entries.{entry};
 ghost use Rattle.turns.specs.Turns.{Turn};
-ghost use Rattle.turns.specs.Checked.{Back, AllBack, Moved, Image, SameJob, TurnsJob, TurnsBelow, MovesTo, Leader, Follower};
+ghost use Rattle.turns.specs.Checked.{Inverse, AllInverse, Moved, Image, SameJob, TurnsJob, TurnsBelow, MovesTo, Leader, Follower};
 use tables::Action;
 use tables::Ask;
 use tables::Loaded;
@@ -52,7 +52,7 @@ fn image(w: u64, fact: [u8; 64]) -> u64
 // Fact p is in its place again when all change places twice.
 fn back_at(fact: [u8; 64], p: usize) -> bool
     requires { ⌜ p < 64 ⌝ }
-    ensures { λ r. ⌜ (r ≡ true → Back fact p) ⌝ }
+    ensures { λ r. ⌜ (r ≡ true → Inverse fact p) ⌝ }
 {
     let i = wide(fact[p]);
     if 64 <= i {
@@ -63,7 +63,7 @@ fn back_at(fact: [u8; 64], p: usize) -> bool
 
 // Every fact is.
 fn facts_back(fact: [u8; 64]) -> bool
-    ensures { λ r. ⌜ (r ≡ true → AllBack fact 64) ⌝ }
+    ensures { λ r. ⌜ (r ≡ true → AllInverse fact 64) ⌝ }
 {
     for p in 0..64 {
         if !back_at(fact, p) {

@@ -9,17 +9,20 @@ use native.Mathlib.Omega.{arith}
 use lib.Dec.{T, ltb, ltb→lt}
 use lib.ListN.{length}
 use Rattle.facts.proofs.Bools.{or-cases, or-l, or-r, at-most}
-use Rattle.rules.specs.Refusals.{Verdict, accepted}
-use Rattle.rules.specs.Table.{InOrder, tableChecks, boundCheck}
+use Rattle.refusals.specs.Refusals.{Verdict, accepted}
+use Rattle.rules.specs.Table.{tableChecks, boundCheck}
+use Rattle.rules.specs.Premises.{InOrder}
 use Rattle.rules.specs.Plans.{starts, Valid}
 use Rattle.rules.specs.Verdicts.{planChecks}
-use Rattle.rules.proofs.Refused.{Checks, if-pass, if-zero, then-checks, table-checks, plan-checks, goes-on, both}
+use Rattle.refusals.proofs.Refused.{Checks, if-pass, if-zero, then-checks, goes-on, both}
+use Rattle.rules.proofs.CheckLists.{table-checks, plan-checks}
 use Rattle.rules.proofs.Checked.{in-order}
 use Rattle.rules.proofs.Judged.{judged}
 use Rattle.tables.specs.declared.Loaded.{Loaded}
 use Rattle.tables.specs.declared.Ask.{Ask}
 use Rattle.tables.specs.declared.Answer.{Answer}
-use Rattle.tables.specs.Tables.{problem, answer, callChecks, Judges, Cleared}
+use Rattle.tables.specs.Tables.{problem, answerOf, callChecks}
+use Rattle.tables.specs.Steps.{Judges, Cleared}
 use Rattle.tables.proofs.Laws.{said}
 use Rattle.tables.proofs.Calls.{call-checks, cleared, accepts-by, stops-there, goes-behind}
 use Rattle.verdict.specs.Offered.{offered, ChecksPlan}
@@ -56,15 +59,15 @@ module _ (short : Bool) (l : Loaded) (q : Ask) (s : List ℕ) where
     }
 
   -- an answer that says what the checks say
-  judged-plan : {r : Answer} → r ≡ answer (offered short l q s accepted) 0 0 → Judges (offered short l q s accepted) (Sound short l q s) r
+  judged-plan : {r : Answer} → r ≡ answerOf (offered short l q s accepted) 0 0 → Judges (offered short l q s accepted) (Sound short l q s) r
   judged-plan e = record { says = e; order = λ z. sound (accepts-by offered-checks e z) }
 
   -- ── the answer, check by check ──
 
   module _ {b : Bool} {t : Answer} (said-few : b ≡ (short || ltb (length s) (q .jobs))) (table : Judges (callChecks b (q .bound) l q accepted) (Cleared b (q .bound) l q) t) where
-    says : t ≡ answer (callChecks few (q .bound) l q accepted) 0 0
+    says : t ≡ answerOf (callChecks few (q .bound) l q accepted) 0 0
     unfolding few
-    says = subst (λ (x : Bool). t ≡ answer (callChecks x (q .bound) l q accepted) 0 0) said-few (table .says)
+    says = subst (λ (x : Bool). t ≡ answerOf (callChecks x (q .bound) l q accepted) 0 0) said-few (table .says)
 
     -- the table is refused
     pub refuses-table : (t .number ≡ 0 → ⊥) → Judges (offered short l q s accepted) (Sound short l q s) t
@@ -79,7 +82,7 @@ module _ (short : Bool) (l : Loaded) (q : Ask) (s : List ℕ) where
           (c .few, at-most (length s) (q .jobs) (λ h. c .room (or-r short _ h)))
 
       -- the plan is judged
-      pub judges-plan : {r : Answer} → r ≡ answer (planChecks (problem l q) (q .bound) (starts s) accepted) 0 0 → Judges (offered short l q s accepted) (Sound short l q s) r
+      pub judges-plan : {r : Answer} → r ≡ answerOf (planChecks (problem l q) (q .bound) (starts s) accepted) 0 0 → Judges (offered short l q s accepted) (Sound short l q s) r
       unfolding few
       judges-plan e = judged-plan (e ∙ said 0 0 (goes-behind (call-checks few (q .bound) l q) says zero _))
 

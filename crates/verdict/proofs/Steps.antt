@@ -11,7 +11,8 @@ use native.Mathlib.Omega.{arith}
 use lib.Dec.{T, ltb, eqb→eq}
 use lib.ListN.{getD}
 use mathlib.Core.List.{List}
-use Rattle.facts.specs.Facts.{has, Word}
+use Rattle.facts.specs.Facts.{has}
+use Rattle.facts.specs.Words.{Word}
 use Rattle.facts.specs.Least.{least, any}
 use Rattle.facts.proofs.Bools.{and-l, and-r, or-at}
 use Rattle.facts.proofs.Least.{least-same}
@@ -21,7 +22,7 @@ use Rattle.rules.specs.Verdicts.{overlap, unready}
 use Rattle.tables.specs.declared.Loaded.{Loaded}
 use Rattle.tables.specs.declared.Ask.{Ask}
 use Rattle.tables.specs.Tables.{problem, jobAt}
-use Rattle.verdict.specs.Steps.{chosen, FactsAt, Next}
+use Rattle.verdict.specs.Steps.{startIn, FactsAt, Next}
 
 -- ── the facts from finish to finish ──
 
@@ -87,11 +88,11 @@ regroup false b x y z = refl
 
 -- the overlap of two jobs of a table: each ends after the other's start, and they interfere
 pub overlap-of : (l : Loaded) (q : Ask) (s : List ℕ) (i j : ℕ)
-    → (((chosen (getD s i 0) && ltb (getD s j 0) (getD s i 0 + jobAt l i .duration)) && (chosen (getD s j 0) && ltb (getD s i 0) (getD s j 0 + jobAt l j .duration))) && interfere (problem l q) i j)
+    → (((startIn (getD s i 0) && ltb (getD s j 0) (getD s i 0 + jobAt l i .duration)) && (startIn (getD s j 0) && ltb (getD s i 0) (getD s j 0 + jobAt l j .duration))) && interfere (problem l q) i j)
     ≡ overlap (problem l q) (starts s) i j
 unfolding overlap inPlan
 overlap-of l q s i j =
-    simp add-zero (regroup (chosen (getD s i 0)) (chosen (getD s j 0)) (ltb (getD s j 0) (getD s i 0 + jobAt l i .duration)) (ltb (getD s i 0) (getD s j 0 + jobAt l j .duration)) (interfere (problem l q) i j))
+    simp add-zero (regroup (startIn (getD s i 0)) (startIn (getD s j 0)) (ltb (getD s j 0) (getD s i 0 + jobAt l i .duration)) (ltb (getD s i 0) (getD s j 0 + jobAt l j .duration)) (interfere (problem l q) i j))
 
 -- what is wanted and not in the word of facts at a time is what is wanted and does not hold then
 pub lacking-same : (f : ℕ → Bool) (want have : ℕ) → Word f have → least (λ p. has want p && not (has have p)) 64 ≡ least (λ p. has want p && not (f p)) 64

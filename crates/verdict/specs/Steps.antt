@@ -5,13 +5,14 @@ use mathlib.Core.List.{List}
 use Prim.Native.Nat.{ℕ, _+_, _≤_, _<_}
 use lib.Dec.{T, eqb, ltb}
 use lib.ListN.{length}
-use Rattle.facts.specs.Facts.{Word}
+use Rattle.facts.specs.Words.{Word}
 use Rattle.rules.specs.Table.{Problem}
 use Rattle.rules.specs.Plans.{Plan, starts, In, finish, holds, Valid}
 use Rattle.rules.specs.Verdicts.{late, clashes, unready}
 use Rattle.tables.specs.declared.Loaded.{Loaded}
 use Rattle.tables.specs.declared.Ask.{Ask}
-use Rattle.tables.specs.Tables.{problem, Cleared}
+use Rattle.tables.specs.Tables.{problem}
+use Rattle.tables.specs.Steps.{Cleared}
 
 -- what is so of an accepted plan
 pub record Sound (short : Bool) (l : Loaded) (q : Ask) (s : List ℕ) : Type 0 where
@@ -29,14 +30,14 @@ abbrev pub FactsAt : Problem → Plan → ℕ → ℕ → Type 0
 FactsAt P s t w = Word (λ p. holds P s p t) w
 
 -- a job with this start is in the plan
-abbrev pub chosen : ℕ → Bool
-chosen start = not (eqb start 65535)
+abbrev pub startIn : ℕ → Bool
+startIn start = not (eqb start 65535)
 
 -- r is `best`, or earlier and still after `from`, and the job does not finish between `from` and r
 pub record Nearer (start duration from best r : ℕ) : Type 0 where
   pub least : r ≤ best
   pub later : from < best → from < r
-  pub free : T (chosen start) → from < start + duration → start + duration < r → ⊥
+  pub free : T (startIn start) → from < start + duration → start + duration < r → ⊥
 
 -- r is after `from` and at most `till`, and no job of the plan finishes between
 pub record Next (P : Problem) (s : Plan) (from till r : ℕ) : Type 0 where

@@ -7,19 +7,21 @@ ghost use mathlib.Core.Bool.{not, _&&_};
 ghost use Prim.Native.Nat.{_+_, _<_};
 ghost use lib.Dec.{eqb, ltb};
 ghost use lib.ListN.{length};
-ghost use Rattle.facts.specs.Facts.{has, Word};
+ghost use Rattle.facts.specs.Facts.{has};
+ghost use Rattle.facts.specs.Words.{Word};
 ghost use Rattle.facts.specs.Least.{least};
-ghost use Rattle.rules.specs.Refusals.{accepted};
+ghost use Rattle.refusals.specs.Refusals.{accepted};
 ghost use Rattle.rules.specs.Plans.{starts, afterIf, finishes};
 ghost use Rattle.rules.specs.Verdicts.{overlap, clashes, unready, missing, planChecks};
 ghost use Rattle.tables.specs.declared.Ask.{Ask};
-ghost use Rattle.tables.specs.Tables.{problem, answer, Judges};
+ghost use Rattle.tables.specs.Tables.{problem, answerOf};
+ghost use Rattle.tables.specs.Steps.{Judges};
 ghost use Rattle.verdict.specs.Offered.{offered, ChecksPlan};
-ghost use Rattle.verdict.specs.Steps.{Sound, Given, FactsAt, chosen, Nearer, Next, stepFails};
+ghost use Rattle.verdict.specs.Steps.{Sound, Given, FactsAt, startIn, Nearer, Next, stepFails};
 
 // The job is in and finishes at t.
 fn ends_at(start: u16, duration: u16, t: u32) -> bool
-    ensures { λ r. ⌜ r ≡ (chosen start && eqb (start + duration) t) ⌝ }
+    ensures { λ r. ⌜ r ≡ (startIn start && eqb (start + duration) t) ⌝ }
 {
     start != 65535 && start as u32 + duration as u32 == t
 }
@@ -97,14 +99,14 @@ fn facts_at(l: Loaded, q: Ask, s: &[u16], t: u16) -> u64
 
 // The job is in and ends after t.
 fn ends_after(start: u16, duration: u16, t: u16) -> bool
-    ensures { λ r. ⌜ r ≡ (chosen start && ltb t (start + duration)) ⌝ }
+    ensures { λ r. ⌜ r ≡ (startIn start && ltb t (start + duration)) ⌝ }
 {
     start != 65535 && (t as u32) < start as u32 + duration as u32
 }
 
 // Both jobs are in, and each starts before the other finishes: touching is not that.
 fn together(a: u16, a_long: u16, b: u16, b_long: u16) -> bool
-    ensures { λ r. ⌜ r ≡ ((chosen a && ltb b (a + «a_long»)) && (chosen b && ltb a (b + «b_long»))) ⌝ }
+    ensures { λ r. ⌜ r ≡ ((startIn a && ltb b (a + «a_long»)) && (startIn b && ltb a (b + «b_long»))) ⌝ }
 {
     ends_after(a, a_long, b) && ends_after(b, b_long, a)
 }
@@ -196,7 +198,7 @@ fn first_missing(l: Loaded, q: Ask, s: &[u16]) -> u32
 // Checks 11 to 14.
 fn steps_fault(l: Loaded, q: Ask, s: &[u16]) -> Answer
     requires { ⌜ Given q (now s) ⌝ }
-    ensures { λ r. ⌜ r ≡ answer (planChecks (problem l q) (q .bound) (starts (now (s .entry))) accepted) 0 0 ⌝ }
+    ensures { λ r. ⌜ r ≡ answerOf (planChecks (problem l q) (q .bound) (starts (now (s .entry))) accepted) 0 0 ⌝ }
 {
     let n = q.jobs;
     let late = first_step(l, q, s, 11);

@@ -3,23 +3,23 @@ use Prim.Native.Nat.{_-_, _≤_}
 use native.Mathlib.Omega.{arith}
 use borrow.Author.Needs.{needs}
 use lib.ListN.{length}
-use Rattle.rules.specs.Pairs.{inOrder, pairBytes}
+use Rattle.rules.specs.Pairs.{joined, pairBytes}
 use Rattle.rules.specs.Plans.{starts}
 use Rattle.tables.specs.Tables.{problem}
 use Rattle.bindings.proofs.Count.{next-room}
 use Rattle.bindings.proofs.Filled.{puts-none, puts-next}
-use Rattle.bindings.specs.Steps.{pairRow, Puts}
+use Rattle.bindings.specs.Steps.{pairRow, Appends}
 use Rattle.bindings.proofs.put_pairs.Statement.{statement}
 use Rattle.bindings.proofs.put_pairs.Tie as tie
 
 abbrev Inv-loop : tie.InvT-loop
-Inv-loop l q s out₀ n f next₀ a₀ out next a = (a ≤ n) × (length out ≡ length out₀) × Puts (inOrder (λ x. pairRow (problem l q) (starts s) x (q .jobs)) a) 0 out₀ out next
+Inv-loop l q s out₀ n f next₀ a₀ out next a = (a ≤ n) × (length out ≡ length out₀) × Appends (joined (λ x. pairRow (problem l q) (starts s) x (q .jobs)) a) 0 out₀ out next
 
 abbrev μ-loop : tie.MeasureT-loop
 μ-loop l q s out₀ n f next₀ a₀ out next a = n - a
 
 loop-holds : tie.Need-loop-holds Inv-loop μ-loop
-unfolding inOrder
+unfolding joined
 loop-holds c = (omega arith, refl, puts-none _ _)
 
 put-row-requires : tie.Need-put-row-requires Inv-loop μ-loop

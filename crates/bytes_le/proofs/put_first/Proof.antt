@@ -5,14 +5,14 @@ use mathlib.Core.List.{List}
 use native.Mathlib.Omega.{arith}
 use borrow.Author.Needs.{needs}
 use native.Mathlib.Nat.{div-one}
-use Rattle.bytes_le.specs.Little.{little, over}
+use Rattle.bytes_le.specs.Little.{little, atFront}
 use Rattle.bytes_le.proofs.Numbers.{length-little, left-more}
 use Rattle.bytes_le.proofs.Laid.{over-more, length-over}
 use Rattle.bytes_le.proofs.put_first.Statement.{statement}
 use Rattle.bytes_le.proofs.put_first.Tie as tie
 
 abbrev Inv-loop : tie.InvT-loop
-Inv-loop value size out₀ left₀ i₀ out left i = (i ≤ size) × (left ≡ value / 256 ^ i) × (out ≡ over (little i value) out₀)
+Inv-loop value size out₀ left₀ i₀ out left i = (i ≤ size) × (left ≡ value / 256 ^ i) × (out ≡ atFront (little i value) out₀)
 
 abbrev μ-loop : tie.MeasureT-loop
 μ-loop value size out₀ left₀ i₀ out left i = size - i
@@ -39,7 +39,7 @@ same-length c =
 returns : tie.Need-returns Inv-loop μ-loop
 returns c =
     let a = c .before .before .args in
-    let e : c .before .loop .i ≡ a .size = omega arith in c .before .loop .inv .2 ∙ ap (λ (n : ℕ). over (little n (a .value)) (a .out .now)) e
+    let e : c .before .loop .i ≡ a .size = omega arith in c .before .loop .inv .2 ∙ ap (λ (n : ℕ). atFront (little n (a .value)) (a .out .now)) e
 
 pub put-first-spec : {M : Type 1} → statement M
 put-first-spec =

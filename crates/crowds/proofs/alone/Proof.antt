@@ -4,14 +4,14 @@ use native.Mathlib.Omega.{arith}
 use lib.ListN.{length}
 use Rattle.facts.proofs.Lists.{set-more}
 use Rattle.states.specs.State.{Search}
-use Rattle.crowds.specs.Heaps.{Chosen, AllChosen}
+use Rattle.crowds.specs.Heaps.{OneIn, AllOneIn}
 use denote.Ref.{now}
 use borrow.Author.Needs.{needs}
 use Rattle.crowds.proofs.alone.Statement.{statement}
 use Rattle.crowds.proofs.alone.Tie as tie
 
 abbrev Inv-loop : tie.InvT-loop
-Inv-loop s words₀ j₀ words j = (j ≤ 24) × (length words ≡ 24) × ((P : Search) → AllChosen P s words j)
+Inv-loop s words₀ j₀ words j = (j ≤ 24) × (length words ≡ 24) × ((P : Search) → AllOneIn P s words j)
 
 abbrev μ-loop : tie.MeasureT-loop
 μ-loop s words₀ j₀ words j = 24 - j
@@ -20,7 +20,7 @@ loop-again : tie.Need-loop-again Inv-loop μ-loop
 loop-again c =
     let l = c .before .before .loop in
     let a = c .before .before .before .args in
-    (omega arith, search needs, λ P. set-more (λ i w. Chosen P (now (a .s)) w) (l .words) (l .j) _ 0 (omega (arith, l .inv .1)) (l .inv .2 P) (c .alone-at .ensures P))
+    (omega arith, search needs, λ P. set-more (λ i w. OneIn P (now (a .s)) w) (l .words) (l .j) _ 0 (omega (arith, l .inv .1)) (l .inv .2 P) (c .alone-at .ensures P))
 
 pub alone-spec : {M : Type 1} → statement M
 alone-spec =

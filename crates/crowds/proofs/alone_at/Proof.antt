@@ -1,6 +1,6 @@
 use mathlib.Core.Path.{refl}
 use denote.Ref.{now}
-use Rattle.cells.proofs.Tests.{passed}
+use Rattle.facts.proofs.Tests.{passed}
 use Rattle.crowds.proofs.Laws.{chosen-alone}
 use borrow.Author.Needs.{needs}
 use Rattle.crowds.proofs.alone_at.Statement.{statement}

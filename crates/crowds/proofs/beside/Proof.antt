@@ -1,6 +1,6 @@
 use borrow.Author.Tests.{not-false}
 use Rattle.cells.proofs.Changes.{none, under, follows}
-use Rattle.cells.proofs.Tests.{passed}
+use Rattle.facts.proofs.Tests.{passed}
 use Rattle.crowds.proofs.Laws.{stands-more}
 use borrow.Author.Needs.{needs}
 use Rattle.crowds.proofs.beside.Statement.{statement}

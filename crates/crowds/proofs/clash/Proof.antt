@@ -3,7 +3,7 @@ use mathlib.Core.Path.{subst}
 use borrow.Author.Tests.{not-false}
 use Prim.Native.Nat.{ℕ}
 use Rattle.facts.proofs.Walks.{Done, done-none, done-next, done-all}
-use Rattle.facts.specs.Facts.{Covers}
+use Rattle.facts.specs.Words.{Covers}
 use Rattle.lent.specs.Lent.{hitsOf}
 use denote.Ref.{now}
 use borrow.Author.Needs.{needs}

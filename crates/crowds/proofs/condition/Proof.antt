@@ -1,5 +1,5 @@
 use mathlib.Core.Path.{refl}
-use Rattle.cells.proofs.Tests.{passed}
+use Rattle.facts.proofs.Tests.{passed}
 use borrow.Author.Needs.{needs}
 use Rattle.crowds.proofs.condition.Statement.{statement}
 use Rattle.crowds.proofs.condition.Tie as tie

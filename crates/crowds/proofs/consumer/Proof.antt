@@ -1,4 +1,4 @@
-use Rattle.cells.proofs.Tests.{passed}
+use Rattle.facts.proofs.Tests.{passed}
 use Rattle.crowds.specs.Heaps.{Grows}
 use denote.Ref.{now}
 use borrow.Author.Needs.{needs}

@@ -2,7 +2,7 @@ use native.Mathlib.Nat.{le-trans}
 use native.Mathlib.Omega.{arith}
 use Prim.Native.Nat.{_≤_, _<_}
 use Rattle.facts.proofs.Walks.{Done, done-none, done-all}
-use Rattle.crowds.specs.Heaps.{Kept}
+use Rattle.crowds.specs.Heaps.{KeptOff}
 use Rattle.crowds.proofs.Laws.{hold-next}
 use denote.Ref.{now}
 use borrow.Author.Needs.{needs}
@@ -10,7 +10,7 @@ use Rattle.crowds.proofs.hold.Statement.{statement}
 use Rattle.crowds.proofs.hold.Tie as tie
 
 abbrev Inv-loop : tie.InvT-loop
-Inv-loop s t a w m x₀ v₀ x v = (x ≤ m) × Done (λ b. b < 24 → Kept s t a x b) w v
+Inv-loop s t a w m x₀ v₀ x v = (x ≤ m) × Done (λ b. b < 24 → KeptOff s t a x b) w v
 
 abbrev μ-loop : tie.MeasureT-loop
 μ-loop s t a w m x₀ v₀ x v = v

@@ -2,7 +2,7 @@ use mathlib.Core.Logic.{inr}
 use native.Mathlib.Omega.{arith}
 use Prim.Native.Nat.{_<_}
 use Rattle.facts.proofs.Walks.{Done, done-none, done-all}
-use Rattle.crowds.specs.Heaps.{KeptAll}
+use Rattle.crowds.specs.Heaps.{AllKeptOff}
 use Rattle.crowds.proofs.Laws.{holds-next}
 use denote.Ref.{now}
 use borrow.Author.Needs.{needs}
@@ -10,7 +10,7 @@ use Rattle.crowds.proofs.holds.Statement.{statement}
 use Rattle.crowds.proofs.holds.Tie as tie
 
 abbrev Inv-loop : tie.InvT-loop
-Inv-loop s t w group others x₀ v₀ x v = Done (λ a. a < 24 → KeptAll s t others a x) group v
+Inv-loop s t w group others x₀ v₀ x v = Done (λ a. a < 24 → AllKeptOff s t others a x) group v
 
 abbrev μ-loop : tie.MeasureT-loop
 μ-loop s t w group others x₀ v₀ x v = v

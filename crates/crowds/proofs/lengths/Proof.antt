@@ -3,14 +3,14 @@ use Prim.Native.Nat.{_-_, _≤_}
 use native.Mathlib.Omega.{arith}
 use lib.ListN.{length, getD}
 use Rattle.facts.proofs.Lists.{set-more}
-use Rattle.crowds.specs.Heaps.{Holds, AllHold}
+use Rattle.crowds.specs.Heaps.{KeepsAway, AllKeepAway}
 use denote.Ref.{now}
 use borrow.Author.Needs.{needs}
 use Rattle.crowds.proofs.lengths.Statement.{statement}
 use Rattle.crowds.proofs.lengths.Tie as tie
 
 abbrev Inv-loop : tie.InvT-loop
-Inv-loop s t w words long₀ a₀ long a = (a ≤ 24) × (length long ≡ 24) × AllHold s t w words long a
+Inv-loop s t w words long₀ a₀ long a = (a ≤ 24) × (length long ≡ 24) × AllKeepAway s t w words long a
 
 abbrev μ-loop : tie.MeasureT-loop
 μ-loop s t w words long₀ a₀ long a = 24 - a
@@ -19,7 +19,7 @@ loop-again : tie.Need-loop-again Inv-loop μ-loop
 loop-again c =
     let l = c .before .before .loop in
     let a = c .before .before .before .args in
-    (omega arith, search needs, set-more (λ i x. Holds (now (a .s)) (now (a .t)) (a .w) (getD (a .t4) i 0) x) (l .long) (l .a) _ 0 (omega (arith, l .inv .1)) (l .inv .2) (c .holds .ensures))
+    (omega arith, search needs, set-more (λ i x. KeepsAway (now (a .s)) (now (a .t)) (a .w) (getD (a .t4) i 0) x) (l .long) (l .a) _ 0 (omega (arith, l .inv .1)) (l .inv .2) (c .holds .ensures))
 
 pub lengths-spec : {M : Type 1} → statement M
 lengths-spec =

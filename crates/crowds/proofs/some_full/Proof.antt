@@ -1,13 +1,13 @@
 use Rattle.cells.specs.View.{Prunes}
 use Rattle.cells.proofs.Changes.{none, follows}
-use Rattle.crowds.specs.Heaps.{Offered}
+use Rattle.crowds.specs.Heaps.{GroupsOf}
 use Rattle.crowds.proofs.Laws.{offered-more}
 use borrow.Author.Needs.{needs}
 use Rattle.crowds.proofs.some_full.Statement.{statement}
 use Rattle.crowds.proofs.some_full.Tie as tie
 
 abbrev Inv-loop : tie.InvT-loop
-Inv-loop s₀ t g first last₀ v₀ s last v = Prunes (Offered t s₀ g) s₀ s
+Inv-loop s₀ t g first last₀ v₀ s last v = Prunes (GroupsOf t s₀ g) s₀ s
 
 abbrev μ-loop : tie.MeasureT-loop
 μ-loop s₀ t g first last₀ v₀ s last v = v

@@ -2,13 +2,13 @@ use Prim.Native.Nat.{_-_, _≤_}
 use native.Mathlib.Omega.{arith}
 use Rattle.states.specs.State.{Search}
 use Rattle.lent.specs.Lent.{Lent}
-use Rattle.crowds.specs.Heaps.{AllChosen}
+use Rattle.crowds.specs.Heaps.{AllOneIn}
 use borrow.Author.Needs.{needs}
 use Rattle.crowds.proofs.words_of.Statement.{statement}
 use Rattle.crowds.proofs.words_of.Tie as tie
 
 abbrev Inv-loop : tie.InvT-loop
-Inv-loop s t g₀ b₀ g b = (b ≤ 25) × ((P : Search) → Lent t P → AllChosen P s (g .words) 24)
+Inv-loop s t g₀ b₀ g b = (b ≤ 25) × ((P : Search) → Lent t P → AllOneIn P s (g .words) 24)
 
 abbrev μ-loop : tie.MeasureT-loop
 μ-loop s t g₀ b₀ g b = 25 - b

@@ -1,6 +1,6 @@
 use mathlib.Core.Bool.{false≢true}
 use Rattle.facts.proofs.Bools.{test-yes}
-use Rattle.cells.proofs.Tests.{passed}
+use Rattle.facts.proofs.Tests.{passed}
 use borrow.Author.Needs.{needs}
 use Rattle.distinct.proofs.fits.Statement.{statement}
 use Rattle.distinct.proofs.fits.Tie as tie

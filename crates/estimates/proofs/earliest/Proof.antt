@@ -4,7 +4,7 @@ use denote.Ref.{now}
 use lib.Dec.{ltb}
 use lib.ListN.{length}
 use Rattle.facts.proofs.Bools.{at-most}
-use Rattle.rules.specs.Refusals.{accepted}
+use Rattle.refusals.specs.Refusals.{accepted}
 use Rattle.tables.proofs.Calls.{call-checks}
 use Rattle.tables.proofs.Fills.{fills-fault, fills-behind}
 use Rattle.entries.specs.Entries.{entry}

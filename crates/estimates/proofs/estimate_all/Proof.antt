@@ -2,7 +2,7 @@ use lib.ListN.{length, replicate, getD-replicate}
 use borrow.Author.Needs.{needs}
 use mathlib.Core.Path.{_≡_, refl}
 use native.Mathlib.Omega.{arith}
-use Rattle.rules.proofs.Sums.{sum}
+use Rattle.rules.specs.Sums.{sum}
 use Rattle.tables.specs.Tables.{problem}
 use Rattle.entries.specs.Entries.{entry}
 use Rattle.estimates.proofs.Laws.{High, high-first, high-next, sum-less, solved}

@@ -4,14 +4,14 @@ use Rattle.facts.proofs.Sets.{below-pow}
 use Rattle.facts.proofs.Walks.{Done, done-none, Over, over-all, over-next, over-here}
 use Rattle.states.specs.State.{Search}
 use Rattle.lent.specs.Consumers.{SomeSafe}
-use Rattle.flaws.specs.Flaw.{Picks, Seen}
+use Rattle.flaws.specs.Flaw.{Picks, SceneOf}
 use Rattle.flaws.proofs.Flaws.{pick-dead, pick-map, pick-sooner, no-job}
 use borrow.Author.Needs.{needs}
 use Rattle.flaws.proofs.best_job.Statement.{statement}
 use Rattle.flaws.proofs.best_job.Tie as tie
 
 abbrev Inv-loop : tie.InvT-loop
-Inv-loop s x t best₀ w₀ best w = (P : Search) (p : ℕ) → Seen P s p x → Over 32 (x .cands) w × Picks s (SomeSafe P s p (x .by)) (Done (λ i. ⊥) (x .cands) w) best
+Inv-loop s x t best₀ w₀ best w = (P : Search) (p : ℕ) → SceneOf P s p x → Over 32 (x .cands) w × Picks s (SomeSafe P s p (x .by)) (Done (λ i. ⊥) (x .cands) w) best
 
 abbrev μ-loop : tie.MeasureT-loop
 μ-loop s x t best₀ w₀ best w = w

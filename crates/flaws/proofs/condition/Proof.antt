@@ -1,5 +1,5 @@
 use native.Mathlib.Omega.{arith}
-use Rattle.cells.proofs.Tests.{passed, failed}
+use Rattle.facts.proofs.Tests.{passed, failed}
 use Rattle.facts.proofs.Sets.{has-lt}
 use Rattle.flaws.proofs.Flaws.{pick-fine, pick-map}
 use borrow.Author.Needs.{needs}

@@ -1,6 +1,6 @@
 use native.Mathlib.Omega.{arith}
 use denote.Ref.{now}
-use Rattle.cells.proofs.Tests.{passed, failed}
+use Rattle.facts.proofs.Tests.{passed, failed}
 use Rattle.flaws.proofs.Flaws.{pick-fine, consumer-safe}
 use borrow.Author.Needs.{needs}
 use Rattle.flaws.proofs.consumer.Statement.{statement}

@@ -2,7 +2,7 @@ use native.Mathlib.Omega.{arith}
 use denote.Ref.{now}
 use Rattle.states.proofs.Rules as rules
 use Rattle.cells.specs.View.{view}
-use Rattle.cells.proofs.Tests.{passed, failed}
+use Rattle.facts.proofs.Tests.{passed, failed}
 use Rattle.flaws.proofs.Flaws.{pick-fine, pick-pair, pick-dead, tangled}
 use borrow.Author.Needs.{needs}
 use Rattle.flaws.proofs.mutex_at.Statement.{statement}

@@ -9,7 +9,7 @@ use Rattle.facts.proofs.Bools.{and-of}
 use Rattle.facts.proofs.Sets.{has-and}
 use Rattle.facts.proofs.Walks.{Done, done-none, done-next, done-all, Over, over-both, over-next}
 use Rattle.states.specs.State.{Search, Dead}
-use Rattle.cells.specs.View.{view, word, ins}
+use Rattle.cells.specs.View.{view, wordAt, ins}
 use Rattle.lent.specs.Lent.{Lent, hitsOf}
 use Rattle.lent.specs.Consumers.{Ordered}
 use Rattle.flaws.specs.Flaw.{Picks}
@@ -20,7 +20,7 @@ use Rattle.flaws.proofs.mutex_row.Tie as tie
 
 abbrev Inv-loop : tie.InvT-loop
 Inv-loop s a t best₀ w₀ best w =
-    Over 32 (hitsOf t a) w × ((P : Search) → Lent t P → Picks s (Done (λ b. b < 24 → Ordered s a b) (bitAnd (hitsOf t a) (word s ins)) w) (Dead P (view s)) best)
+    Over 32 (hitsOf t a) w × ((P : Search) → Lent t P → Picks s (Done (λ b. b < 24 → Ordered s a b) (bitAnd (hitsOf t a) (wordAt s ins)) w) (Dead P (view s)) best)
 
 abbrev μ-loop : tie.MeasureT-loop
 μ-loop s a t best₀ w₀ best w = w
@@ -39,7 +39,7 @@ returns-2 : tie.Need-returns-2 Inv-loop μ-loop
 returns-2 c P e =
     let a = c .before .before .before .before .before .before .args in
     let h = hitsOf (now (a .t)) (a .a) in
-    let w = word (now (a .s)) ins in
+    let w = wordAt (now (a .s)) ins in
     pick-map (λ f l b k x i j. done-all {X = λ b. b < 24 → Ordered (now (a .s)) (a .a) b} f (c .loop-test .left) b (subst T (sym (has-and h w b)) (and-of (has h b) (has w b) x j)) k i j) (λ n. n) (c .before .loop .inv .1 P e)
 
 pub mutex-row-spec : {M : Type 1} → statement M
@@ -53,7 +53,7 @@ mutex-row-spec =
     (λ c κs. search needs)
     (λ c κs. search needs)
     (λ c κs. search needs)
-    (λ c. let a = c .before .before .before .before .args in rw (c .before .hits .ensures, c .insides .ensures) (over-both (hitsOf (now (a .t)) (a .a)) (word (now (a .s)) ins) (omega arith), λ P e. pick-fine (c .before .before .fine2 .ensures) done-none))
+    (λ c. let a = c .before .before .before .before .args in rw (c .before .hits .ensures, c .insides .ensures) (over-both (hitsOf (now (a .t)) (a .a)) (wordAt (now (a .s)) ins) (omega arith), λ P e. pick-fine (c .before .before .fine2 .ensures) done-none))
     (λ c κs. search needs)
     (λ c κs. search needs)
     (λ c κs. search needs)

@@ -1,16 +1,16 @@
 use denote.Ref.{now}
 use Rattle.facts.proofs.Walks.{Done, done-none, done-next, done-all}
 use Rattle.states.specs.State.{Search, Dead}
-use Rattle.cells.specs.View.{view, word, ins}
+use Rattle.cells.specs.View.{view, wordAt, ins}
 use Rattle.lent.specs.Lent.{Lent}
-use Rattle.flaws.specs.Flaw.{Picks, RowApart}
+use Rattle.flaws.specs.Flaw.{Picks, RowOrdered}
 use Rattle.flaws.proofs.Flaws.{pick-fine, pick-map, pick-urgent}
 use borrow.Author.Needs.{needs}
 use Rattle.flaws.proofs.mutexes.Statement.{statement}
 use Rattle.flaws.proofs.mutexes.Tie as tie
 
 abbrev Inv-loop : tie.InvT-loop
-Inv-loop s t best₀ w₀ best w = (P : Search) → Lent t P → Picks s (Done (RowApart s t) (word s ins) w) (Dead P (view s)) best
+Inv-loop s t best₀ w₀ best w = (P : Search) → Lent t P → Picks s (Done (RowOrdered s t) (wordAt s ins) w) (Dead P (view s)) best
 
 abbrev μ-loop : tie.MeasureT-loop
 μ-loop s t best₀ w₀ best w = w
@@ -35,4 +35,4 @@ mutexes-spec =
     (λ c κs. search needs)
     (λ c. c .rest .ensures .less)
     loop-again
-    (λ c P e. let x = c .before .before .before .before .args in pick-map (λ f a b l k h i. done-all {X = RowApart (now (x .s)) (now (x .t))} f (c .loop-test .left) a i l b k h i) (λ n. n) (c .before .loop .inv P e)))
+    (λ c P e. let x = c .before .before .before .before .args in pick-map (λ f a b l k h i. done-all {X = RowOrdered (now (x .s)) (now (x .t))} f (c .loop-test .left) a i l b k h i) (λ n. n) (c .before .loop .inv P e)))

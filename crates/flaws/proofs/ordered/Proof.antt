@@ -1,6 +1,6 @@
 use mathlib.Core.Logic.{inl, inr, ⊎-elim}
 use Rattle.facts.proofs.Bools.{test-yes, test-no, says-test, says-yes}
-use Rattle.cells.proofs.Tests.{passed, failed}
+use Rattle.facts.proofs.Tests.{passed, failed}
 use borrow.Author.Needs.{needs}
 use Rattle.flaws.proofs.ordered.Statement.{statement}
 use Rattle.flaws.proofs.ordered.Tie as tie

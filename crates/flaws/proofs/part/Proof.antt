@@ -1,6 +1,6 @@
 use mathlib.Core.Bool.{Bool}
 use mathlib.Core.Path.{sym, ap, _∙_}
-use Rattle.flaws.specs.Flaw.{parted}
+use Rattle.flaws.specs.Flaw.{threatPair}
 use borrow.Author.Needs.{needs}
 use Rattle.flaws.proofs.part.Statement.{statement}
 use Rattle.flaws.proofs.part.Tie as tie
@@ -11,6 +11,6 @@ part-spec =
     (tie.spec
     (λ c κs. search needs)
     (λ c κs. search needs)
-    (λ c. let a = c .before .before .before .args in c .pair .ensures ∙ ap (λ (x : Bool). parted x (a .a) (a .b) (a .d)) (sym (c .before .if1 .taken) ∙ c .before .before .never .ensures))
+    (λ c. let a = c .before .before .before .args in c .pair .ensures ∙ ap (λ (x : Bool). threatPair x (a .a) (a .b) (a .d)) (sym (c .before .if1 .taken) ∙ c .before .before .never .ensures))
     (λ c κs. search needs)
-    (λ c. let a = c .before .before .before .args in c .pair2 .ensures ∙ ap (λ (x : Bool). parted x (a .a) (a .b) (a .d)) (sym (c .before .if1 .left) ∙ c .before .before .never .ensures)))
+    (λ c. let a = c .before .before .before .args in c .pair2 .ensures ∙ ap (λ (x : Bool). threatPair x (a .a) (a .b) (a .d)) (sym (c .before .if1 .left) ∙ c .before .before .never .ensures)))

@@ -1,7 +1,7 @@
 use native.Mathlib.Omega.{arith}
 use mathlib.Core.Path.{refl}
 use denote.Ref.{now}
-use Rattle.cells.proofs.Tests.{passed, failed}
+use Rattle.facts.proofs.Tests.{passed, failed}
 use Rattle.flaws.proofs.Flaws.{pick-fine, pick-job, pick-pair, pair-for, sup-safe, sup-part}
 use borrow.Author.Needs.{needs}
 use Rattle.flaws.proofs.support.Statement.{statement}

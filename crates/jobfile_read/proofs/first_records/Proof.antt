@@ -4,7 +4,7 @@ use borrow.Author.Needs.{needs}
 use Prim.Native.Nat.{ℕ, _-_, _≤_}
 use Rattle.tables.specs.declared.Action.{Action}
 use Rattle.tables.specs.declared.Loaded.{Loaded}
-use Rattle.tables.specs.Tables.{withJob}
+use Rattle.tables.specs.Steps.{withJob}
 use Rattle.tables.proofs.Lent.{none-tabled}
 use Rattle.jobfile.specs.Format.{firstOf}
 use Rattle.jobfile_read.proofs.Laws.{first-more}

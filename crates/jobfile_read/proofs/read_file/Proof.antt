@@ -2,9 +2,9 @@ use native.Mathlib.Omega.{arith}
 use mathlib.Core.Path.{sym, ap, _∙_}
 use lib.Dec.{lt→ltb, ltb→lt}
 use lib.ListN.{length}
-use Rattle.rules.specs.Refusals.{Verdict}
-use Rattle.rules.proofs.Refused.{if-hit, if-pass}
-use Rattle.jobfile.specs.Calls.{readChecks, taken}
+use Rattle.refusals.specs.Refusals.{Verdict}
+use Rattle.refusals.proofs.Refused.{if-hit, if-pass}
+use Rattle.jobfile.specs.Calls.{readChecks, handedFrom}
 use Rattle.jobfile_read.proofs.Laws.{gives-no}
 use borrow.Author.Needs.{needs}
 use Rattle.jobfile_read.proofs.read_file.Statement.{statement}
@@ -22,7 +22,7 @@ returns-3 : tie.Need-returns-3
 unfolding readChecks
 returns-3 c =
     let a = c .before .before .before .before .args in
-    c .read-save .ensures ∙ ap (λ (v : Verdict). taken v (a .file .now) (a .room)) (sym (if-pass _ 1 0 _ (λ h. omega (arith, ltb→lt 65536 (length (a .file .now)) h)) ∙ if-pass _ 2 0 _ (λ h. omega (arith, ltb→lt (length (a .file .now)) 24 h))))
+    c .read-save .ensures ∙ ap (λ (v : Verdict). handedFrom v (a .file .now) (a .room)) (sym (if-pass _ 1 0 _ (λ h. omega (arith, ltb→lt 65536 (length (a .file .now)) h)) ∙ if-pass _ 2 0 _ (λ h. omega (arith, ltb→lt (length (a .file .now)) 24 h))))
 
 pub read-file-spec : {M : Type 1} → statement M
 read-file-spec =

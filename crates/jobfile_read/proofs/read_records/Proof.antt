@@ -1,14 +1,13 @@
-use mathlib.Core.Path.{ap, _∙_}
+use mathlib.Core.Path.{ap, _∙_, _≡_}
 use native.Mathlib.Omega.{arith}
 use mathlib.Core.Bool.{false}
 use Prim.Native.Nat.{ℕ}
 use Rattle.facts.proofs.Bools.{test-yes, test-no}
-use Rattle.rules.specs.Refusals.{accepted}
-use Rattle.rules.proofs.Refused.{if-hit, if-pass}
-use Rattle.tables.specs.Tables.{answer, callChecks}
+use Rattle.refusals.specs.Refusals.{accepted}
+use Rattle.refusals.proofs.Refused.{if-hit, if-pass}
+use Rattle.tables.specs.Tables.{answerOf, callChecks}
 use Rattle.tables.specs.declared.Loaded.{Loaded}
 use Rattle.tables.proofs.Laws.{said}
-use mathlib.Core.Path.{_≡_}
 use Rattle.jobfile.specs.Format.{firstOf, tableIn}
 use Rattle.jobfile.specs.Calls.{recordChecks, whole}
 use Rattle.jobfile_read.proofs.Laws.{gives-stop, gives-no, gives}
@@ -21,10 +20,10 @@ table-is : (c : tie.After-first-records) → c .first-records .result ≡ tableI
 table-is c = c .first-records .ensures ∙ ap (λ (k : ℕ). firstOf (c .before .before .before .before .before .args .records .now) k (c .before .before .before .before .before .args .room)) (c .before .held .ensures)
 
 says : (c : tie.After-call-fault)
-    → c .call-fault .result ≡ answer (recordChecks (c .before .before .before .before .before .before .args .records .now) (c .before .before .before .before .before .before .args .q) (c .before .before .before .before .before .before .args .room)) 0 0
+    → c .call-fault .result ≡ answerOf (recordChecks (c .before .before .before .before .before .before .args .records .now) (c .before .before .before .before .before .before .args .q) (c .before .before .before .before .before .before .args .room)) 0 0
 says c =
     c .call-fault .ensures .says
-    ∙ ap (λ (t : Loaded). answer (callChecks false (c .before .before .before .before .before .before .args .q .bound) t (c .before .before .before .before .before .before .args .q) accepted) 0 0) (table-is (c .before))
+    ∙ ap (λ (t : Loaded). answerOf (callChecks false (c .before .before .before .before .before .before .args .q .bound) t (c .before .before .before .before .before .before .args .q) accepted) 0 0) (table-is (c .before))
     ∙ said 0 0 (if-pass _ 2 0 _ (test-no (c .before .before .before .before .any-spoilt .ensures) (c .before .before .before .if1 .left)))
 
 returns : tie.Need-returns

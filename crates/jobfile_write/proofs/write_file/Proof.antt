@@ -7,7 +7,7 @@ use native.Mathlib.Omega.{arith}
 use Prim.Native.Nat.{_+_, _*_, _≤_}
 use lib.ListN.{length}
 use Rattle.facts.proofs.Bools.{test-yes, test-no, at-most}
-use Rattle.rules.proofs.Refused.{if-hit, if-pass}
+use Rattle.refusals.proofs.Refused.{if-hit, if-pass}
 use Rattle.tables.proofs.Calls.{call-checks, accepts-by}
 use Rattle.tables.specs.declared.Answer.{Answer}
 use Rattle.jobfile.specs.Calls.{writeChecks}

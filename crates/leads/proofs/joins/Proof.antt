@@ -1,5 +1,5 @@
 use Rattle.cells.proofs.Changes.{none, says, then}
-use Rattle.cells.proofs.Tests.{passed}
+use Rattle.facts.proofs.Tests.{passed}
 use Rattle.states.proofs.Leads.{lead-in, lead-low}
 use native.Mathlib.Omega.{arith}
 use borrow.Author.Needs.{needs}

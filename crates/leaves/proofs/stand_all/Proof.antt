@@ -2,14 +2,14 @@ use Prim.Native.Nat.{_-_, _≤_}
 use native.Mathlib.Omega.{arith}
 use borrow.Author.Count.{below-more}
 use borrow.Author.Tests.{not-true, not-false}
-use Rattle.leaves.specs.Leaf.{AllStand}
+use Rattle.leaves.specs.Leaf.{AllInPlace}
 use Rattle.leaves.proofs.Laws.{checks-fine, checks-dead}
 use borrow.Author.Needs.{needs}
 use Rattle.leaves.proofs.stand_all.Statement.{statement}
 use Rattle.leaves.proofs.stand_all.Tie as tie
 
 abbrev Inv-loop : tie.InvT-loop
-Inv-loop s t j₀ j = (j ≤ 24) × AllStand s t j
+Inv-loop s t j₀ j = (j ≤ 24) × AllInPlace s t j
 
 abbrev μ-loop : tie.MeasureT-loop
 μ-loop s t j₀ j = 24 - j

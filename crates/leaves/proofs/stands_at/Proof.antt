@@ -3,7 +3,7 @@ use denote.Ref.{now}
 use Rattle.facts.proofs.Bools.{test-yes, test-no}
 use Rattle.states.proofs.Keep.{both-dead}
 use Rattle.cells.specs.View.{view}
-use Rattle.cells.proofs.Tests.{passed, failed}
+use Rattle.facts.proofs.Tests.{passed, failed}
 use Rattle.leaves.proofs.Laws.{checks-fine, checks-dead, checks-le, out}
 use borrow.Author.Needs.{needs}
 use Rattle.leaves.proofs.stands_at.Statement.{statement}

@@ -1,5 +1,5 @@
 use mathlib.Core.Path.{refl}
-use Rattle.cells.proofs.Tests.{passed, failed}
+use Rattle.facts.proofs.Tests.{passed, failed}
 use borrow.Author.Needs.{needs}
 use Rattle.leaves.proofs.start_at.Statement.{statement}
 use Rattle.leaves.proofs.start_at.Tie as tie

@@ -3,13 +3,13 @@ use native.Mathlib.Omega.{arith}
 use denote.Ref.{now}
 use Rattle.facts.proofs.Lists.{set-more}
 use Rattle.cells.specs.View.{view}
-use Rattle.leaves.specs.Leaf.{StartIs, Starts}
+use Rattle.leaves.specs.Leaf.{StartIs, StartsOf}
 use borrow.Author.Needs.{needs}
 use Rattle.leaves.proofs.starts.Statement.{statement}
 use Rattle.leaves.proofs.starts.Tie as tie
 
 abbrev Inv-loop : tie.InvT-loop
-Inv-loop s out₀ j₀ out j = (j ≤ 24) × Starts s j out
+Inv-loop s out₀ j₀ out j = (j ≤ 24) × StartsOf s j out
 
 abbrev μ-loop : tie.MeasureT-loop
 μ-loop s out₀ j₀ out j = 24 - j

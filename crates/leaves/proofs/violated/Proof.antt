@@ -1,13 +1,13 @@
 use native.Mathlib.Omega.{arith}
 use Rattle.facts.proofs.Walks.{Done, done-none, done-next, done-all}
-use Rattle.cells.specs.View.{word, ins}
+use Rattle.cells.specs.View.{wordAt, ins}
 use Rattle.leaves.specs.Leaf.{RowSteady}
 use borrow.Author.Needs.{needs}
 use Rattle.leaves.proofs.violated.Statement.{statement}
 use Rattle.leaves.proofs.violated.Tie as tie
 
 abbrev Inv-loop : tie.InvT-loop
-Inv-loop s t w₀ w = Done (RowSteady s t) (word s ins) w
+Inv-loop s t w₀ w = Done (RowSteady s t) (wordAt s ins) w
 
 abbrev μ-loop : tie.MeasureT-loop
 μ-loop s t w₀ w = w

@@ -1,7 +1,7 @@
 use native.Mathlib.Omega.{arith}
 use borrow.Author.Tests.{ltb-true, ltb-false}
 use Rattle.facts.proofs.Bools.{says-no}
-use Rattle.cells.proofs.Tests.{passed, failed}
+use Rattle.facts.proofs.Tests.{passed, failed}
 use borrow.Author.Needs.{needs}
 use Rattle.leaves.proofs.violated_at.Statement.{statement}
 use Rattle.leaves.proofs.violated_at.Tie as tie

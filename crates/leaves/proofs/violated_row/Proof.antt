@@ -1,7 +1,7 @@
 use native.Mathlib.Omega.{arith}
 use lib.Bits.{bitAnd}
 use Rattle.facts.proofs.Walks.{Done, done-none, done-next}
-use Rattle.cells.specs.View.{word, sures, ins}
+use Rattle.cells.specs.View.{wordAt, sures, ins}
 use Rattle.leaves.specs.Leaf.{Violated}
 use Rattle.leaves.proofs.Laws.{late-none, row-done}
 use borrow.Author.Needs.{needs}
@@ -9,7 +9,7 @@ use Rattle.leaves.proofs.violated_row.Statement.{statement}
 use Rattle.leaves.proofs.violated_row.Tie as tie
 
 abbrev Inv-loop : tie.InvT-loop
-Inv-loop s b t w₀ w = Done (λ a. Violated s t a b → ⊥) (bitAnd (word s (sures b)) (word s ins)) w
+Inv-loop s b t w₀ w = Done (λ a. Violated s t a b → ⊥) (bitAnd (wordAt s (sures b)) (wordAt s ins)) w
 
 abbrev μ-loop : tie.MeasureT-loop
 μ-loop s b t w₀ w = w

@@ -13,12 +13,12 @@ use Rattle.tables.specs.Tables.{problem}
 use Rattle.tables.specs.declared.Ask.{Ask}
 use Rattle.named.proofs.Blocks.{blocks-of}
 use Rattle.named.proofs.Tests.{no-fact}
-use Rattle.named.specs.Named.{consumer}
+use Rattle.named.specs.Named.{consumerOf}
 use Rattle.named.proofs.blocked.Statement.{statement}
 use Rattle.named.proofs.blocked.Tie as tie
 
 abbrev Inv-loop : tie.InvT-loop
-Inv-loop s c from l n w₀ d₀ w d = (d ≤ n) × ((q : Ask) (p : ℕ) → has w p ≡ any (blocks (problem l q) (starts s) p (consumer c) 0 from) d)
+Inv-loop s c from l n w₀ d₀ w d = (d ≤ n) × ((q : Ask) (p : ℕ) → has w p ≡ any (blocks (problem l q) (starts s) p (consumerOf c) 0 from) d)
 
 abbrev μ-loop : tie.MeasureT-loop
 μ-loop s c from l n w₀ d₀ w d = n - d

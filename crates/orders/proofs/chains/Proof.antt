@@ -1,13 +1,13 @@
 use Rattle.cells.proofs.Changes.{none, then}
 use native.Mathlib.Omega.{arith}
-use Rattle.cells.specs.View.{Prunes, Any}
+use Rattle.cells.specs.View.{Prunes, Always}
 use Prim.Native.Nat.{_-_, _≤_}
 use borrow.Author.Needs.{needs}
 use Rattle.orders.proofs.chains.Statement.{statement}
 use Rattle.orders.proofs.chains.Tie as tie
 
 abbrev Inv-loop : tie.InvT-loop
-Inv-loop s₀ b₀ s b = (b ≤ 24) × Prunes Any s₀ s
+Inv-loop s₀ b₀ s b = (b ≤ 24) × Prunes Always s₀ s
 
 abbrev μ-loop : tie.MeasureT-loop
 μ-loop s₀ b₀ s b = 24 - b

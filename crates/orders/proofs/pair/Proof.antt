@@ -1,5 +1,5 @@
 use Rattle.cells.proofs.Changes.{then, under}
-use Rattle.cells.proofs.Tests.{same}
+use Rattle.facts.proofs.Tests.{same}
 use native.Mathlib.Omega.{arith}
 use Rattle.lent.proofs.Laws.{wait-of}
 use borrow.Author.Needs.{needs}

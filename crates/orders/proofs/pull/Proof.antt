@@ -1,5 +1,5 @@
 use Rattle.cells.proofs.Changes.{none, says, say}
-use Rattle.cells.proofs.Tests.{passed}
+use Rattle.facts.proofs.Tests.{passed}
 use native.Mathlib.Omega.{arith}
 use Rattle.states.proofs.Rules as rules
 use borrow.Author.Needs.{needs}

@@ -1,11 +1,11 @@
 use Rattle.cells.proofs.Changes.{none, then}
-use Rattle.cells.specs.View.{Prunes, Any}
+use Rattle.cells.specs.View.{Prunes, Always}
 use borrow.Author.Needs.{needs}
 use Rattle.orders.proofs.through_all.Statement.{statement}
 use Rattle.orders.proofs.through_all.Tie as tie
 
 abbrev Inv-loop : tie.InvT-loop
-Inv-loop s₀ b w₀ s w = Prunes Any s₀ s
+Inv-loop s₀ b w₀ s w = Prunes Always s₀ s
 
 abbrev μ-loop : tie.MeasureT-loop
 μ-loop s₀ b w₀ s w = w

@@ -1,6 +1,6 @@
 use Rattle.cells.proofs.Changes.{mute, says-then}
 use Rattle.cells.specs.View.{Says}
-use Rattle.outset.specs.Outset.{Planned}
+use Rattle.outset.specs.Outset.{ListedPlan}
 use Rattle.outset.proofs.First.{blank-fits}
 use Prim.Native.Nat.{_-_, _≤_}
 use native.Mathlib.Omega.{arith}
@@ -9,7 +9,7 @@ use Rattle.outset.proofs.root.Statement.{statement}
 use Rattle.outset.proofs.root.Tie as tie
 
 abbrev Inv-loop : tie.InvT-loop
-Inv-loop t s₀ j₀ s j = (j ≤ 24) × Says (Planned t) s₀ s
+Inv-loop t s₀ j₀ s j = (j ≤ 24) × Says (ListedPlan t) s₀ s
 
 abbrev μ-loop : tie.MeasureT-loop
 μ-loop t s₀ j₀ s j = 24 - j

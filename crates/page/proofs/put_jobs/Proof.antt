@@ -5,7 +5,7 @@ use Rattle.page.proofs.Laws.{lays-none, lays-fit, lays-next}
 use Rattle.page.specs.Lays.{Lays}
 use Rattle.page.specs.Page.{jobsAt}
 use Rattle.tables.specs.Tables.{problem}
-use Rattle.rules.specs.Pairs.{inOrder}
+use Rattle.rules.specs.Pairs.{joined}
 use Rattle.rules.specs.Plans.{starts}
 use lib.ListN.{length}
 use Prim.Native.Nat.{_+_, _-_, _*_, _≤_}
@@ -14,13 +14,13 @@ use Rattle.page.proofs.put_jobs.Statement.{statement}
 use Rattle.page.proofs.put_jobs.Tie as tie
 
 abbrev Inv-loop : tie.InvT-loop
-Inv-loop l q s bound at out₀ n next₀ t₀ out next t = (t ≤ n) × (length out ≡ length out₀) × Lays (18 * q .jobs) (inOrder (jobsAt (problem l q) (starts s)) t) at out₀ out next
+Inv-loop l q s bound at out₀ n next₀ t₀ out next t = (t ≤ n) × (length out ≡ length out₀) × Lays (18 * q .jobs) (joined (jobsAt (problem l q) (starts s)) t) at out₀ out next
 
 abbrev μ-loop : tie.MeasureT-loop
 μ-loop l q s bound at out₀ n next₀ t₀ out next t = n - t
 
 loop-holds : tie.Need-loop-holds Inv-loop μ-loop
-unfolding inOrder
+unfolding joined
 loop-holds c = (omega arith, refl, lays-fit (lays-none _ _) (omega arith))
 
 loop-again : tie.Need-loop-again Inv-loop μ-loop

@@ -4,20 +4,20 @@ use borrow.Author.Needs.{needs}
 use native.Mathlib.Omega.{arith}
 use Rattle.page.proofs.Laws.{lays-none, lays-fit, lays-line}
 use Rattle.page.specs.Lays.{Lays}
-use Rattle.rules.specs.Pairs.{inOrder}
+use Rattle.rules.specs.Pairs.{joined}
 use lib.ListN.{length, getD}
 use Prim.Native.Nat.{_+_, _-_, _*_, _≤_}
 use Rattle.page.proofs.put_pairs.Statement.{statement}
 use Rattle.page.proofs.put_pairs.Tie as tie
 
 abbrev Inv-loop : tie.InvT-loop
-Inv-loop pairs n at out₀ next₀ i₀ out next i = (i ≤ n) × (length out ≡ length out₀) × Lays (19 * i) (inOrder (λ k. pairLine (getD pairs (2 * k) 0) (getD pairs (2 * k + 1) 0)) i) at out₀ out next
+Inv-loop pairs n at out₀ next₀ i₀ out next i = (i ≤ n) × (length out ≡ length out₀) × Lays (19 * i) (joined (λ k. pairLine (getD pairs (2 * k) 0) (getD pairs (2 * k + 1) 0)) i) at out₀ out next
 
 abbrev μ-loop : tie.MeasureT-loop
 μ-loop pairs n at out₀ next₀ i₀ out next i = n - i
 
 loop-holds : tie.Need-loop-holds Inv-loop μ-loop
-unfolding inOrder
+unfolding joined
 loop-holds c = (omega arith, refl, lays-fit (lays-none _ _) (omega arith))
 
 loop-again : tie.Need-loop-again Inv-loop μ-loop

@@ -5,7 +5,7 @@ use borrow.Author.Needs.{needs}
 use native.Mathlib.Omega.{arith}
 use Rattle.page.proofs.Laws.{lays-none, lays-fit, lays-line}
 use Rattle.page.specs.Lays.{Lays}
-use Rattle.rules.specs.Pairs.{inOrder}
+use Rattle.rules.specs.Pairs.{joined}
 use Rattle.rules.specs.Plans.{starts}
 use lib.ListN.{length, getD}
 use lib.Dec.{eqb}
@@ -14,13 +14,13 @@ use Rattle.page.proofs.put_starts.Statement.{statement}
 use Rattle.page.proofs.put_starts.Tie as tie
 
 abbrev Inv-loop : tie.InvT-loop
-Inv-loop l s t at out₀ n next₀ j₀ out next j = (j ≤ n) × (length out ≡ length out₀) × Lays (18 * j) (inOrder (λ i. textIf (eqb (starts s i) t) (jobLine (starts s i) (starts s i + jobAt l i .duration) i)) j) at out₀ out next
+Inv-loop l s t at out₀ n next₀ j₀ out next j = (j ≤ n) × (length out ≡ length out₀) × Lays (18 * j) (joined (λ i. textIf (eqb (starts s i) t) (jobLine (starts s i) (starts s i + jobAt l i .duration) i)) j) at out₀ out next
 
 abbrev μ-loop : tie.MeasureT-loop
 μ-loop l s t at out₀ n next₀ j₀ out next j = n - j
 
 loop-holds : tie.Need-loop-holds Inv-loop μ-loop
-unfolding inOrder
+unfolding joined
 loop-holds c = (omega arith, refl, lays-fit (lays-none _ _) (omega arith))
 
 loop-again : tie.Need-loop-again Inv-loop μ-loop

@@ -1,5 +1,5 @@
 use Rattle.planner.proofs.Laws.{first-done}
-use Rattle.planner.specs.Planner.{Begins}
+use Rattle.planner.specs.Planner.{BeginsSo}
 use Rattle.lent.specs.Lent.{Lent}
 use Prim.Native.Nat.{_-_, _≤_}
 use native.Mathlib.Omega.{arith}
@@ -8,7 +8,7 @@ use Rattle.planner.proofs.first.Statement.{statement}
 use Rattle.planner.proofs.first.Tie as tie
 
 abbrev Inv-loop : tie.InvT-loop
-Inv-loop root₀ t out₀ n k₀ root out k = (k ≤ n) × Begins (Lent t) k root out
+Inv-loop root₀ t out₀ n k₀ root out k = (k ≤ n) × BeginsSo (Lent t) k root out
 
 abbrev μ-loop : tie.MeasureT-loop
 μ-loop root₀ t out₀ n k₀ root out k = n - k

@@ -4,7 +4,7 @@ use Prim.Native.Nat.{_+_, _-_, _*_, _≤_}
 use mathlib.Core.Path.{_≡_, refl}
 use lib.ListN.{getD}
 use Rattle.tables.specs.Tables.{jobAt}
-use Rattle.rules.proofs.Sums.{sum}
+use Rattle.rules.specs.Sums.{sum}
 use Rattle.planning.proofs.Laws.{sum-next}
 use Rattle.planning.proofs.all_durations.Statement.{statement}
 use Rattle.planning.proofs.all_durations.Tie as tie

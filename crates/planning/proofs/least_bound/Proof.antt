@@ -3,8 +3,8 @@ use mathlib.Core.Path.{ap, _∙_}
 use borrow.Author.Needs.{needs}
 use denote.Ref.{now}
 use Rattle.facts.proofs.Bools.{at-most}
-use Rattle.rules.specs.Refusals.{accepted}
-use Rattle.tables.specs.Tables.{answer}
+use Rattle.refusals.specs.Refusals.{accepted}
+use Rattle.tables.specs.Tables.{answerOf}
 use Rattle.planning.proofs.Answers.{in-reach, bounds-refused, bounds-none, bounds-found}
 use Rattle.planning.proofs.least_bound.Statement.{statement}
 use Rattle.planning.proofs.least_bound.Tie as tie
@@ -24,4 +24,4 @@ least-bound-spec =
     (λ c κs. search needs)
     (λ c κs. search needs)
     (λ c. search needs)
-    (λ c. let a = c .before .before .before .before .before .before .before .before .before .before .before .before .before .before .before .args in bounds-found (a .l) (a .q) (now (a .out)) (c .before .before .before .before .before .before .before .before .before .before .before .before .call-fault .ensures) (c .before .before .before .before .before .before .before .before .before .before .if1 .left) _ (c .before .before .before .before .before .before .before .before .before .enough .ensures) (c .done .ensures ∙ ap (λ (v : ℕ). answer accepted v 0) (c .before .wide .ensures .0)) (c .before .before .before .before .fill .ensures) (c .before .before .before .before .before .before .before .least-within .ensures) (c .before .before .before .before .before .before .if2 .left)))
+    (λ c. let a = c .before .before .before .before .before .before .before .before .before .before .before .before .before .before .before .args in bounds-found (a .l) (a .q) (now (a .out)) (c .before .before .before .before .before .before .before .before .before .before .before .before .call-fault .ensures) (c .before .before .before .before .before .before .before .before .before .before .if1 .left) _ (c .before .before .before .before .before .before .before .before .before .enough .ensures) (c .done .ensures ∙ ap (λ (v : ℕ). answerOf accepted v 0) (c .before .wide .ensures .0)) (c .before .before .before .before .fill .ensures) (c .before .before .before .before .before .before .before .least-within .ensures) (c .before .before .before .before .before .before .if2 .left)))

@@ -1,4 +1,4 @@
-use Rattle.planning.specs.Derived.{Kept, NoneBelow}
+use Rattle.planning.specs.Derived.{SameLists, NoneBelow}
 use Rattle.planning.proofs.Laws.{kept-refl, kept-trans, kept-back, served-to, none-to}
 use Prim.Native.Nat.{_-_, _≤_}
 use native.Mathlib.Omega.{arith}
@@ -6,7 +6,7 @@ use Rattle.planning.proofs.low_end.Statement.{statement}
 use Rattle.planning.proofs.low_end.Tie as tie
 
 abbrev Inv-loop : tie.InvT-loop
-Inv-loop t₀ top low₀ high₀ t low high = Kept t₀ t × NoneBelow t₀ low × (low ≤ high) × (high ≤ top)
+Inv-loop t₀ top low₀ high₀ t low high = SameLists t₀ t × NoneBelow t₀ low × (low ≤ high) × (high ≤ top)
 
 abbrev μ-loop : tie.MeasureT-loop
 μ-loop t₀ top low₀ high₀ t low high = high - low

@@ -1,4 +1,4 @@
-use Rattle.planning.specs.Derived.{Kept, Held}
+use Rattle.planning.specs.Derived.{SameLists, Bracketed}
 use Rattle.planning.proofs.Laws.{kept-refl, kept-trans, kept-back, served-to, held-to}
 use Prim.Native.Nat.{_-_, _≤_}
 use native.Mathlib.Omega.{arith}
@@ -7,7 +7,7 @@ use Rattle.planning.proofs.narrow.Statement.{statement}
 use Rattle.planning.proofs.narrow.Tie as tie
 
 abbrev Inv-loop : tie.InvT-loop
-Inv-loop t₀ from top out₀ low₀ high₀ t out low high = Kept t₀ t × Held t₀ low high out × (high ≤ top)
+Inv-loop t₀ from top out₀ low₀ high₀ t out low high = SameLists t₀ t × Bracketed t₀ low high out × (high ≤ top)
 
 abbrev μ-loop : tie.MeasureT-loop
 μ-loop t₀ from top out₀ low₀ high₀ t out low high = high - low

@@ -1,5 +1,5 @@
 use mathlib.Core.Path.{refl}
-use Rattle.planning.specs.Derived.{Kept, NoneBelow}
+use Rattle.planning.specs.Derived.{SameLists, NoneBelow}
 use Rattle.planning.proofs.Laws.{kept-refl, kept-trans, kept-back, served-to, none-to, held-to, ends-within, ends-held}
 use Prim.Native.Nat.{_-_, _≤_}
 use native.Mathlib.Omega.{arith}
@@ -7,7 +7,7 @@ use Rattle.planning.proofs.rise.Statement.{statement}
 use Rattle.planning.proofs.rise.Tie as tie
 
 abbrev Inv-loop : tie.InvT-loop
-Inv-loop t₀ low top out₀ from₀ at₀ t out from at = Kept t₀ t × NoneBelow t₀ from × (low ≤ at) × (at ≤ top)
+Inv-loop t₀ low top out₀ from₀ at₀ t out from at = SameLists t₀ t × NoneBelow t₀ from × (low ≤ at) × (at ≤ top)
 
 abbrev μ-loop : tie.MeasureT-loop
 μ-loop t₀ low top out₀ from₀ at₀ t out from at = top - at

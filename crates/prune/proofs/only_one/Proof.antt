@@ -1,5 +1,5 @@
 use Rattle.cells.proofs.Changes.{none, under}
-use Rattle.cells.proofs.Tests.{passed}
+use Rattle.facts.proofs.Tests.{passed}
 use Rattle.prune.proofs.Laws.{only-spared}
 use native.Mathlib.Omega.{arith}
 use borrow.Author.Needs.{needs}

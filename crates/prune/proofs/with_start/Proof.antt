@@ -1,5 +1,5 @@
 use Rattle.cells.proofs.Changes.{none, under}
-use Rattle.cells.proofs.Tests.{passed}
+use Rattle.facts.proofs.Tests.{passed}
 use Rattle.prune.proofs.Laws.{only-begun}
 use borrow.Author.Needs.{needs}
 use Rattle.prune.proofs.with_start.Statement.{statement}

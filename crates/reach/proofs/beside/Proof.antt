@@ -1,13 +1,13 @@
 use Prim.Native.Nat.{_-_}
 use native.Mathlib.Omega.{arith}
 use borrow.Author.Needs.{needs}
-use Rattle.reach.specs.Rows.{Beside}
+use Rattle.reach.specs.Rows.{StayBeside}
 use Rattle.reach.proofs.Laws.{beside-none, beside-more}
 use Rattle.reach.proofs.beside.Statement.{statement}
 use Rattle.reach.proofs.beside.Tie as tie
 
 abbrev Inv-loop : tie.InvT-loop
-Inv-loop c d s w₀ q₀ w q = Beside (s .rows) c d q w
+Inv-loop c d s w₀ q₀ w q = StayBeside (s .rows) c d q w
 
 abbrev μ-loop : tie.MeasureT-loop
 μ-loop c d s w₀ q₀ w q = 64 - q

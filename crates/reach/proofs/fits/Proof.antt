@@ -4,7 +4,8 @@ use mathlib.Core.Bool.{false≢true}
 use lib.Dec.{T}
 use borrow.Author.Tests.{not-true, not-false}
 use lib.ListN.{getD}
-use Rattle.facts.specs.Facts.{has, Covers}
+use Rattle.facts.specs.Facts.{has}
+use Rattle.facts.specs.Words.{Covers}
 use Prim.Native.Nat.{ℕ, _-_, _<_}
 use native.Mathlib.Omega.{arith}
 use borrow.Author.Needs.{needs}

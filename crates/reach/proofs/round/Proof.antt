@@ -3,16 +3,16 @@ use Prim.Native.Nat.{_-_, _≤_}
 use native.Mathlib.Omega.{arith}
 use lib.ListN.{length}
 use borrow.Author.Needs.{needs}
-use Rattle.rules.specs.Table.{InOrder}
+use Rattle.rules.specs.Premises.{InOrder}
 use Rattle.tables.specs.declared.Ask.{Ask}
 use Rattle.tables.specs.Tables.{problem}
-use Rattle.reach.specs.Rows.{Rounds}
+use Rattle.reach.specs.Rows.{PairRound}
 use Rattle.reach.proofs.Rounds.{round-none, round-more}
 use Rattle.reach.proofs.round.Statement.{statement}
 use Rattle.reach.proofs.round.Tie as tie
 
 abbrev Inv-loop : tie.InvT-loop
-Inv-loop l t₀ n i₀ t i = (i ≤ n) × ((length (t .rows) ≡ 64) × ((q : Ask) → InOrder (problem l q) → n ≤ q .jobs → Rounds (problem l q) i (t₀ .rows) (t .rows)))
+Inv-loop l t₀ n i₀ t i = (i ≤ n) × ((length (t .rows) ≡ 64) × ((q : Ask) → InOrder (problem l q) → n ≤ q .jobs → PairRound (problem l q) i (t₀ .rows) (t .rows)))
 
 abbrev μ-loop : tie.MeasureT-loop
 μ-loop l t₀ n i₀ t i = n - i

@@ -6,7 +6,7 @@ use native.Mathlib.Omega.{arith}
 use lib.ListN.{getD}
 use borrow.Author.Needs.{needs}
 use borrow.Author.Tests.{not-true, not-false}
-use Rattle.facts.specs.Facts.{Covers}
+use Rattle.facts.specs.Words.{Covers}
 use Rattle.facts.proofs.Bools.{says-no, below-suc}
 use Rattle.reach.proofs.within.Statement.{statement}
 use Rattle.reach.proofs.within.Tie as tie

@@ -6,7 +6,8 @@ use native.Mathlib.Omega.{arith}
 use lib.Dec.{eqb}
 use lib.ListN.{getD}
 use borrow.Author.Needs.{needs}
-use Rattle.facts.specs.Facts.{has, Word}
+use Rattle.facts.specs.Facts.{has}
+use Rattle.facts.specs.Words.{Word}
 use Rattle.facts.specs.Least.{any}
 use Rattle.readings.proofs.Loops.{with-none, with-more}
 use Rattle.readings.proofs.with_marked.Statement.{statement}

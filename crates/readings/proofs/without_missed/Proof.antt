@@ -8,7 +8,8 @@ use mir.Syntax.{w16}
 use mir.Val.{toZ}
 use mir.ValLaws.{toZ-ofZ}
 use borrow.Author.Needs.{needs}
-use Rattle.facts.specs.Facts.{has, Word}
+use Rattle.facts.specs.Facts.{has}
+use Rattle.facts.specs.Words.{Word}
 use Rattle.facts.specs.Least.{any}
 use Rattle.readings.specs.Marks.{markAt, missed}
 use Rattle.readings.proofs.Loops.{without-none, without-more}

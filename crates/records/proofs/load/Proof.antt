@@ -52,7 +52,8 @@ use denote.Triple.Walked.{says, Stays, stay-none-slice, walkOf, AllGo, goes-none
 use denote.Exit.{yes}
 use Rattle.tables.specs.declared.Action.{Action}
 use Rattle.tables.specs.declared.Loaded.{Loaded}
-use Rattle.tables.specs.Tables.{noJob, recordAt, tabled, noJobs, withJob}
+use Rattle.tables.specs.Tables.{noJob, recordAt, tabled, noJobs}
+use Rattle.tables.specs.Steps.{withJob}
 use Rattle.tables.proofs.Lent.{none-tabled, one-tabled}
 use Rattle.tables.proofs.Loaded as G
 use Rattle.tables.proofs.Loaded.Laws as G′

@@ -7,12 +7,12 @@ use borrow.Author.Count.{below-more}
 use Rattle.facts.specs.Facts.{has}
 use Rattle.facts.proofs.Bools.{test-yes, test-no}
 use Rattle.facts.proofs.Least.{found, not-found}
-use Rattle.times.specs.Times.{first, second}
+use Rattle.times.specs.Times.{pairFirst, pairSecond}
 use Rattle.settle.proofs.first_outside.Statement.{statement}
 use Rattle.settle.proofs.first_outside.Tie as tie
 
 abbrev Inv-loop : tie.InvT-loop
-Inv-loop set pairs n k₀ k = (k ≤ n) × ((i : ℕ) → i < k → T (not (has set (first pairs i) && has set (second pairs i))) → ⊥)
+Inv-loop set pairs n k₀ k = (k ≤ n) × ((i : ℕ) → i < k → T (not (has set (pairFirst pairs i) && has set (pairSecond pairs i))) → ⊥)
 
 abbrev μ-loop : tie.MeasureT-loop
 μ-loop set pairs n k₀ k = n - k

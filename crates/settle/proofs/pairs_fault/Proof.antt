@@ -3,7 +3,7 @@ use native.Mathlib.Omega.{arith}
 use lib.Dec.{lt→ltb, ltb→lt}
 use Rattle.facts.proofs.Bools.{test-yes, test-no}
 use Rattle.rules.specs.Settling.{settleChecks}
-use Rattle.rules.proofs.Refused.{at-hit, at-miss, if-hit, if-pass}
+use Rattle.refusals.proofs.Refused.{at-hit, at-miss, if-hit, if-pass}
 use Rattle.tables.proofs.Laws.{said}
 use borrow.Author.Needs.{needs}
 use Rattle.settle.proofs.pairs_fault.Statement.{statement}

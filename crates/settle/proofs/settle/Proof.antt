@@ -5,7 +5,7 @@ use borrow.Author.Needs.{needs}
 use borrow.Author.Tests.{not-true, not-false}
 use denote.Ref.{now}
 use lib.ListN.{length, getD-replicate}
-use Rattle.rules.specs.Refusals.{accepted, refused}
+use Rattle.refusals.specs.Refusals.{accepted, refused}
 use Rattle.tables.proofs.Fills.{fills-fault, fills-behind}
 use Rattle.entries.specs.Entries.{entry}
 use Rattle.times.proofs.Laws.{found-zero}

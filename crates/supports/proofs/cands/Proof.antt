@@ -1,12 +1,12 @@
 use denote.Ref.{now}
-use Rattle.supports.specs.Supports.{Fair}
+use Rattle.supports.specs.Supports.{FairSupport}
 use Rattle.supports.proofs.Laws.{Sifted, sifted-none, sifted-next, cands-all}
 use borrow.Author.Needs.{needs}
 use Rattle.supports.proofs.cands.Statement.{statement}
 use Rattle.supports.proofs.cands.Tie as tie
 
 abbrev Inv-loop : tie.InvT-loop
-Inv-loop s b adders dang v₀ w₀ v w = Sifted (Fair s b dang) adders v w
+Inv-loop s b adders dang v₀ w₀ v w = Sifted (FairSupport s b dang) adders v w
 
 abbrev μ-loop : tie.MeasureT-loop
 μ-loop s b adders dang v₀ w₀ v w = v

@@ -3,7 +3,7 @@ use native.Mathlib.Omega.{arith}
 use lib.Dec.{lt→ltb, ltb→lt}
 use Rattle.facts.proofs.Bools.{test-yes, test-no}
 use Rattle.rules.specs.Table.{tableChecks}
-use Rattle.rules.proofs.Refused.{if-hit, if-pass}
+use Rattle.refusals.proofs.Refused.{if-hit, if-pass}
 use Rattle.rules.proofs.Checked.{in-range}
 use Rattle.tables.proofs.Laws.{said}
 use Rattle.tables.proofs.Calls.{judged-call}

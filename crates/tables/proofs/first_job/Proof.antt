@@ -5,7 +5,8 @@ use lib.Dec.{T}
 use borrow.Author.Count.{below-more}
 use Rattle.facts.proofs.Bools.{test-yes, test-no}
 use Rattle.facts.proofs.Least.{found, not-found}
-use Rattle.tables.specs.Tables.{problem, jobFails}
+use Rattle.tables.specs.Tables.{problem}
+use Rattle.tables.specs.Steps.{jobFails}
 use Rattle.tables.proofs.first_job.Statement.{statement}
 use Rattle.tables.proofs.first_job.Tie as tie
 

@@ -3,7 +3,7 @@ use lib.Dec.{lt→ltb, ltb→lt}
 use native.Mathlib.Omega.{arith}
 use Rattle.facts.proofs.Bools.{test-yes, test-no}
 use Rattle.rules.specs.Table.{jobChecks, boundCheck}
-use Rattle.rules.proofs.Refused.{at-hit, at-miss, if-hit, if-pass}
+use Rattle.refusals.proofs.Refused.{at-hit, at-miss, if-hit, if-pass}
 use Rattle.tables.proofs.Laws.{said}
 use borrow.Author.Needs.{needs}
 use Rattle.tables.proofs.jobs_fault.Statement.{statement}

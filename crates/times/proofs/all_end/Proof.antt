@@ -4,13 +4,13 @@ use Prim.Native.Nat.{_-_, _≤_}
 use native.Mathlib.Omega.{arith}
 use borrow.Author.Count.{below-more}
 use Rattle.entries.specs.Entries.{entry}
-use Rattle.times.specs.Steps.{Ends}
+use Rattle.times.specs.Steps.{EndInTime}
 use Rattle.times.proofs.Tests.{over, not-over}
 use Rattle.times.proofs.all_end.Statement.{statement}
 use Rattle.times.proofs.all_end.Tie as tie
 
 abbrev Inv-loop : tie.InvT-loop
-Inv-loop q l t n j₀ j = (j ≤ n) × Ends l q (entry t) j
+Inv-loop q l t n j₀ j = (j ≤ n) × EndInTime l q (entry t) j
 
 abbrev μ-loop : tie.MeasureT-loop
 μ-loop q l t n j₀ j = n - j

@@ -4,7 +4,7 @@ use Prim.Native.Nat.{_-_}
 use lib.ListN.{length}
 use denote.Ref.{now}
 use borrow.Author.Tests.{not-true, not-false}
-use Rattle.rules.proofs.Sums.{sum}
+use Rattle.rules.specs.Sums.{sum}
 use Rattle.entries.specs.Entries.{entry}
 use Rattle.times.specs.Steps.{Pushed}
 use Rattle.times.proofs.Laws.{pushed-none, round-none, round-last, round-less, round-more}

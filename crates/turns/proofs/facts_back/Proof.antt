@@ -1,4 +1,4 @@
-use Rattle.turns.specs.Checked.{Back, AllBack}
+use Rattle.turns.specs.Checked.{Inverse, AllInverse}
 use Rattle.turns.proofs.Laws.{next-so}
 use mathlib.Core.Bool.{false≢true}
 use Prim.Native.Nat.{_-_, _≤_}
@@ -9,7 +9,7 @@ use Rattle.turns.proofs.facts_back.Statement.{statement}
 use Rattle.turns.proofs.facts_back.Tie as tie
 
 abbrev Inv-loop : tie.InvT-loop
-Inv-loop fact p₀ p = (p ≤ 64) × AllBack fact p
+Inv-loop fact p₀ p = (p ≤ 64) × AllInverse fact p
 
 abbrev μ-loop : tie.MeasureT-loop
 μ-loop fact p₀ p = 64 - p
@@ -17,7 +17,7 @@ abbrev μ-loop : tie.MeasureT-loop
 loop-again : tie.Need-loop-again Inv-loop μ-loop
 loop-again c =
     let l = c .before .before .before .loop in
-    (omega arith, next-so (Back (c .before .before .before .before .args .fact)) (l .p) (l .inv .1) (c .before .back-at .ensures (not-false _ (c .if1 .left))))
+    (omega arith, next-so (Inverse (c .before .before .before .before .args .fact)) (l .p) (l .inv .1) (c .before .back-at .ensures (not-false _ (c .if1 .left))))
 
 pub facts-back-spec : {M : Type 1} → statement M
 facts-back-spec =

@@ -6,12 +6,12 @@ use lib.Dec.{T}
 use lib.ListN.{getD}
 use Rattle.tables.specs.Tables.{jobAt}
 use Rattle.rules.specs.Plans.{inPlan}
-use Rattle.verdict.specs.Steps.{chosen}
+use Rattle.verdict.specs.Steps.{startIn}
 use Rattle.verdict.proofs.next_finish.Statement.{statement}
 use Rattle.verdict.proofs.next_finish.Tie as tie
 
 abbrev Inv-loop : tie.InvT-loop
-Inv-loop s from till l n best₀ i₀ best i = (i ≤ n) × (best ≤ till) × (from < best) × ((k : ℕ) → k < i → T (chosen (getD s k 0)) → from < getD s k 0 + jobAt l k .duration → getD s k 0 + jobAt l k .duration < best → ⊥)
+Inv-loop s from till l n best₀ i₀ best i = (i ≤ n) × (best ≤ till) × (from < best) × ((k : ℕ) → k < i → T (startIn (getD s k 0)) → from < getD s k 0 + jobAt l k .duration → getD s k 0 + jobAt l k .duration < best → ⊥)
 
 abbrev μ-loop : tie.MeasureT-loop
 μ-loop s from till l n best₀ i₀ best i = n - i

@@ -1,6 +1,6 @@
 use mathlib.Core.Path.{_∙_}
 use borrow.Author.Needs.{needs}
-use Rattle.rules.proofs.Refused.{at-hit, at-miss}
+use Rattle.refusals.proofs.Refused.{at-hit, at-miss}
 use Rattle.rules.specs.Verdicts.{planChecks}
 use Rattle.tables.proofs.Laws.{said}
 use Rattle.verdict.proofs.steps_fault.Statement.{statement}

@@ -1,8 +1,0 @@
-use Rattle.facts.proofs.Sets.{lowest-fact}
-use lib.Count.{trailing-le}
-use native.Mathlib.Omega.{arith}
-use Rattle.cells.proofs.lowest.Statement.{statement}
-use Rattle.cells.proofs.lowest.Tie as tie
-
-pub lowest-spec : {M : Type 1} → statement M
-lowest-spec = tie.close (tie.spec (λ c. omega (arith, trailing-le 32 (c .args .w))) (λ c. lowest-fact 32 (c .args .w)))
