@@ -9,8 +9,8 @@ use lib.Dec.{T}
 use Rattle.facts.specs.Facts.{has}
 use Rattle.rules.specs.Plans.{Plan, interfere}
 use Rattle.rules.proofs.Clash.{flip}
-use Rattle.states.specs.State.{Search, HasJob, St, Left, MustNot, Sure, Low, High}
-use Rattle.crowds.specs.Crowds.{Group, Away, GroupPlaced, CrowdOf, total, AllIn, Pile, Beside, AllBeside, Precede, Follow, All}
+use Rattle.states.specs.State.{Search, HasJob, St, Left, Sure, Low}
+use Rattle.crowds.specs.Crowds.{Group, Away, GroupPlaced, CrowdOf, total, AllIn, Pile, Beside, AllBeside, Precede, All}
 use Rattle.crowds.proofs.Spans.{Span, Clear, AllClear, Within, length, room}
 use Rattle.crowds.proofs.Overload.{span, spans, spread, same, itself}
 
@@ -82,11 +82,6 @@ module _ (P : Search) (s : St) (from till : ℕ) where
     lies-behind Q left i (g ∷ l) (p, a, c) (b, r) (f, q) =
         ((λ x h j. (omega (arith, p .lo x h, left .fits .stays .lo x j), b .back x h Q left j i (f x h Q left j i))), lies-behind Q left i l c r q)
 
-    lies-ahead : (Q : Plan) (left : Left P s Q) → HasJob P Q k → (l : List Group) → CrowdOf P s from till l → AllBeside P s k n l → All (Follow P s k) l → All (Lies Q left (Q k + n) till) l
-    lies-ahead Q left i [] c b f = tt
-    lies-ahead Q left i (g ∷ l) (p, a, c) (b, r) (f, q) =
-        ((λ x h j. (b .there x h Q left i j (f x h Q left i j), omega (arith, p .hi x h, left .fits .stays .hi x j))), lies-ahead Q left i l c r q)
-
     module _ (g : Group) (l : List Group) (c : CrowdOf P s from till (g ∷ l)) (b : AllBeside P s k n (g ∷ l)) where
       -- all of them are over before k: it waits for them all
       pub behind : All (Precede P s k) (g ∷ l) → Low P s k (from + total (g ∷ l))
@@ -95,14 +90,6 @@ module _ (P : Search) (s : St) (from till : ℕ) where
           let x = c .0 .some Q left in
           let z = y .0 (x .0) (x .1) (x .2) in
           crowd-between Q left from (Q k) (g ∷ l) (omega (arith, z .0, z .1)) c y
-
-      -- k is over before all of them: it leaves them room
-      pub ahead : All (Follow P s k) (g ∷ l) → (Q : Plan) → Left P s Q → HasJob P Q k → Q k + n + total (g ∷ l) ≤ till
-      ahead f Q left i =
-          let y = lies-ahead Q left i (g ∷ l) c b f in
-          let x = c .0 .some Q left in
-          let z = y .0 (x .0) (x .1) (x .2) in
-          crowd-between Q left (Q k + n) till (g ∷ l) (omega (arith, z .0, z .1)) c y
 
 -- ── the same of a pile ──
 
@@ -122,10 +109,6 @@ module _ (P : Search) (s : St) (all from till sum members : ℕ) (p : Pile P s a
   leads f [] x = tt
   leads f (g ∷ l) ((x, m), r) = ((λ a i Q left ia ik. left .fits .sure a k (f a (m a i)) ia ik), leads f l r)
 
-  trails : ((a : ℕ) → T (has members a) → T (s .sure k a)) → (l : List Group) → AllIn P s all members l → All (Follow P s k) l
-  trails f [] x = tt
-  trails f (g ∷ l) ((x, m), r) = ((λ a i Q left ik ia. left .fits .sure k a (f a (m a i)) ik ia), trails f l r)
-
   pub pile-last : (low : ℕ) → low ≤ from → low ≤ s .lo k → till < low + (n + sum) → (a : ℕ) → T (has members a) → Sure P s a k
   pile-last low o e h a i = last P s from till (p .groups) (p .crowd) k n (besides (p .groups) (p .known)) low o e (omega (arith, p .sum-is)) a (flip (P .problem) k a (hits a i)) (spaced-plain P s k a n plain) (p .hi a i)
 
@@ -139,18 +122,3 @@ module _ (P : Search) (s : St) (all from till sum members : ℕ) (p : Pile P s a
       go : (l : List Group) → CrowdOf P s from till l → AllIn P s all members l → total l ≡ sum → from + sum ≤ Q k
       go [] c x e = absurd (omega arith)
       go (g ∷ l) c x e = omega (arith, behind P s from till k n g l c (besides (g ∷ l) x) (leads f (g ∷ l) x) Q left i)
-
-  -- k is over before all of the pile
-  ahead-room : 0 < sum → ((a : ℕ) → T (has members a) → T (s .sure k a)) → (Q : Plan) → Left P s Q → HasJob P Q k → Q k + n + sum ≤ till
-  unfolding total
-  ahead-room h f Q left i = go (p .groups) (p .crowd) (p .known) (p .sum-is)
-    where
-      go : (l : List Group) → CrowdOf P s from till l → AllIn P s all members l → total l ≡ sum → Q k + n + sum ≤ till
-      go [] c x e = absurd (omega arith)
-      go (g ∷ l) c x e = omega (arith, ahead P s from till k n g l c (besides (g ∷ l) x) (trails f (g ∷ l) x) Q left i)
-
-  pub pile-ahead : 0 < sum → ((a : ℕ) → T (has members a) → T (s .sure k a)) → (t : ℕ) → till ≤ t + n + sum → High P s k t
-  pile-ahead h f t e Q left i = omega (arith, ahead-room h f Q left i)
-
-  pub pile-out : 0 < sum → ((a : ℕ) → T (has members a) → T (s .sure k a)) → till < n + sum → MustNot P s k
-  pile-out h f e Q left i = omega (arith, ahead-room h f Q left i)

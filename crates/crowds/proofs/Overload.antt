@@ -128,9 +128,6 @@ module _ (P : Search) (s t : St) (m : More s t) where
   pub sound-more : (all : ℕ) (g : Group) → SoundGroup P s all g → SoundGroup P t all g
   sound-more all g x = record { some = some-more (g .jobs) (x .some); inner = x .inner; spaced = λ a b i j n Q l. x .spaced a b i j n Q (left-back m l) }
 
-  pub seen-more : (g : Group) (others low gone : ℕ) → GroupSeen P s g others low gone → GroupSeen P t g others low gone
-  seen-more g others low gone x = record { hits = x .hits; lo = λ a i. omega (arith, x .lo a i, m .lo a); hi = λ a i. omega (arith, x .hi a i, m .hi a) }
-
   against-more : (g h : Group) → Against P s g h → Against P t g h
   against-more g h x = record { hit = x .hit; there = λ a b i j Q l. x .there a b i j Q (left-back m l); back = λ a b i j Q l. x .back a b i j Q (left-back m l) }
 

@@ -13,7 +13,7 @@ use Rattle.rules.specs.Premises.{InOrder}
 use Rattle.rules.specs.Plans.{Plan, In, Valid}
 use Rattle.rules.specs.Order.{First, NoPlan}
 use Rattle.rules.specs.Estimates.{Estimates}
-use Rattle.rules.proofs.Early.{Alike, never-early}
+use Rattle.rules.proofs.Early.{never-early}
 use Rattle.tables.specs.declared.Loaded.{Loaded}
 use Rattle.tables.specs.declared.Ask.{Ask}
 use Rattle.tables.specs.Tables.{jobAt, problem}
@@ -23,7 +23,7 @@ use Rattle.reach.specs.Rows.{inRows, FitIn, deleting, EDone}
 use Rattle.reach.proofs.States.{states}
 use Rattle.reach.proofs.Same.{strong-ok, same-valid}
 use Rattle.reach.proofs.EDeletes.{fit}
-use Rattle.reach.proofs.Alike.{closed-alike}
+use Rattle.reach.proofs.Alike.{Alike, closed-alike}
 use Rattle.reach.proofs.Words.{edone-rest, edone-words}
 use Rattle.states.specs.State.{Leads}
 use Rattle.lent.specs.Lent.{Cols, Spacing, Listed, hitsOf, estOf, waitOf, ledOf}
@@ -89,7 +89,7 @@ module _ (l : Loaded) (q : Ask) (ok : InOrder (problem l q)) (rows : List ℕ) (
   order = subst InOrder (sym is-strong) strong-order
 
   alike : Alike (strong P D) P
-  alike = record { count = refl; conditions = λ i h. refl; additions = λ i p h m. refl; duration = λ i h. refl; release = λ i h. refl; gap = refl; opening = refl }
+  alike = record { count = refl; conditions = λ i h. refl; additions = λ i p h m. refl; opening = refl }
 
   closed : Closed K (inRows rows)
   closed = subst (λ (Z : Problem). Closed Z (inRows rows)) (sym is-strong) (closed-alike (strong P D) P strong-order alike (λ i p h y. words i p h .1 (inl y)) (inRows rows) (x .closed))

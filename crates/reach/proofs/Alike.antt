@@ -1,14 +1,20 @@
 -- What is closed under the rules of a problem is closed under those of one alike that deletes as much or more.
 -- Assumes nothing.
-use mathlib.Core.Path.{sym, subst}
+use mathlib.Core.Path.{_≡_, sym, subst}
 use Prim.Native.Nat.{ℕ, _<_}
 use native.Mathlib.Omega.{arith}
 use lib.Dec.{T}
 use Rattle.facts.specs.Facts.{has}
 use Rattle.rules.specs.Table.{Problem, needs}
 use Rattle.rules.specs.Premises.{InOrder, adds, deletes}
-use Rattle.rules.proofs.Early.{Alike}
 use Rattle.reach.specs.Reach.{PairSet, Fit, Closed}
+
+-- P and R have the same jobs but for what these delete, and the same opening facts
+pub record Alike (P R : Problem) : Type 0 where
+  pub count : P .count ≡ R .count
+  pub conditions : (i : ℕ) → i < P .count → P .conditions i ≡ R .conditions i
+  pub additions : (i p : ℕ) → i < P .count → p < 64 → has (P .additions i) p ≡ has (R .additions i) p
+  pub opening : P .opening ≡ R .opening
 
 module _ (P R : Problem) (ok : InOrder P) (a : Alike P R) (more : (i p : ℕ) → i < P .count → deletes R i p → deletes P i p) (S : PairSet) where
   below : (i : ℕ) → i < P .count → i < R .count

@@ -55,10 +55,6 @@ of-word f (suc k) p h = go (or-cases (has (wordOf f k) p) (f k && eqb p k) (subs
     go (inl x) y = y x
     go (inr x) y = rw (eqb→eq p k (and-r (f k) (eqb p k) x)) (and-l (f k) (eqb p k) x)
 
--- it holds the facts below k that pass the test
-pub word-has : (f : ℕ → Bool) (k p : ℕ) → p < k → has (wordOf f k) p ≡ f p
-word-has f k p l = same _ _ (of-word f k p) (in-word f k p l)
-
 -- and nothing else of k digits does
 pub word-is : (k : ℕ) (f : ℕ → Bool) (w : ℕ) → w < 2 ^ k → Word f w → w ≡ wordOf f k
 word-is k f w l x = word-only k f w (wordOf f k) l (word-lt f k) x (λ p. same _ _ (of-word f k p) (λ h. in-word f k p (has-lt k w p l (subst T (sym (x p)) h)) h))

@@ -4,10 +4,8 @@ use Prim.Native.Nat.{ℕ, _≤_, _<_, _+_}
 use lib.Dec.{T}
 use Rattle.facts.specs.Facts.{has}
 use Rattle.rules.specs.Table.{Problem}
-use mathlib.Core.Bool.{Bool, _||_}
-use Rattle.facts.specs.Least.{any}
 use Rattle.rules.specs.Plans.{Plan, In, finish}
-use Rattle.rules.specs.Supports.{Consumer, jobFits, startFits}
+use Rattle.rules.specs.Supports.{Consumer}
 use mathlib.Core.Logic.{_⊎_, _≢_}
 
 -- job i adds p
@@ -31,10 +29,6 @@ pub record InOrder (P : Problem) : Type 0 where
   pub deleted : (i : ℕ) → i < P .count → Below 64 (P .deletions i)
   pub opened : Below 64 (P .opening)
   pub wanted : Below 64 (P .goals)
-
--- p has a support for the consumer
-unfoldable pub supported : Problem → Plan → ℕ → Consumer → Bool
-supported P s p c = startFits P s p c || any (jobFits P s p c) (P .count)
 
 -- every job in the plan that deletes p, other than the consumer, finishes `lag` before `from` or starts the consumer's lag after it
 abbrev pub Clear : Problem → Plan → ℕ → Consumer → ℕ → ℕ → Type 0
