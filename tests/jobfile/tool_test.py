@@ -1,12 +1,15 @@
 #!/usr/bin/env python3
-"""tools/jobfile: known bytes, the round trip, and each error with its line. Last line: 'N passed, M failed'."""
+"""tools/jobfile: known bytes, the round trip, each error with its line, each warning, and what cannot be read or written.
+Last line: 'N passed, M failed'."""
 import os
 import random
+import re
 import struct
 import subprocess
 import sys
 
-TOOL = os.path.join(os.path.dirname(os.path.abspath(__file__)), '../../tools/jobfile')
+ROOT = os.path.join(os.path.dirname(os.path.abspath(__file__)), '../..')
+TOOL = os.path.join(ROOT, 'tools/jobfile')
 U = '''# P3: unpack, drench, warm, wash
 facts packed unpacked drenched warm washed
 open packed
@@ -40,6 +43,8 @@ ERRORS = [
     ('bound', 1, 'takes one number'),
     ('bound 65536', 1, 'from 0 to 65535'),
     ('bound -1', 1, 'from 0 to 65535'),
+    ('bound ' + '9' * 9999, 1, 'from 0 to 65535'),
+    ('job a ' + '9' * 9999 + ': ->', 1, 'from 0 to 65535'),
     ('atoms 256', 1, 'from 0 to 255'),
     ('atoms 1\natoms 1', 2, 'given twice'),
     ('job', 1, 'a job is'),
@@ -60,15 +65,61 @@ ERRORS = [
 BAD_FILES = [
     (U_FILE[-23:], 'fewer than a trailer'),
     (bytes(65537), 'more than 65536'),
+    (bytes(1 << 17), 'more than 65536'),
     (U_FILE[:-4] + struct.pack('<I', 127), 'the distance 127'),
     (U_FILE[:-4] + struct.pack('<I', 129), 'the distance 129'),
     (U_FILE[:95] + b'\1' + U_FILE[96:], 'of job 2 are not zero'),
 ]
+# What the planner will refuse, with the number and the place, 0 for none.
+WARNED = [
+    ('bound 5', 4, 0),
+    ('facts a\natoms 65\nbound 5', 4, 0),
+    ('facts a\nbound 5\n' + '\n'.join(f'job a{n} 1: ->' for n in range(25)), 5, 0),
+    ('facts a\nbound 5\njob b 1: ->\njob c 961: ->\njob d 0: ->', 6, 1),
+    ('facts a\nbound 5\njob b 0: ->', 6, 0),
+    ('facts a b\natoms 1\nbound 5\njob c 1: a ->\njob d 1: b ->\nopen b', 7, 1),
+    ('facts a b\natoms 1\nbound 5\ngoals b', 7, 24),
+    ('facts a\nbound 2881\njob b 1: -> a - a', 8, 0),
+    ('facts a\nbound 2881', 9, 0),
+]
+IN_ORDER = 'facts a\nbound 2880\n' + '\n'.join(f'job a{n} 960: -> a' for n in range(24))
+# What the shell does with the tool, and the words that must be said.
+UNABLE = [
+    ('"$0" make </', 'is a folder'),
+    ('"$0" show </', 'is a folder'),
+    ('"$0" make <&-', 'standard input cannot be read'),
+    ('"$0" make >&-', 'standard output cannot be written'),
+    ('"$0" make >/dev/full', 'standard output cannot be written'),
+    ('"$0" --help >/dev/full', 'standard output cannot be written'),
+]
+
+
+def refusal_words():
+    """The words of each refusal and of its place, as README's table has them."""
+    with open(os.path.join(ROOT, 'README.md'), encoding='utf-8') as lines:
+        rows = [re.fullmatch(r'\| (\d+) \| (.*) \| (.*) \|\n', line) for line in lines]
+    return [row.groups() for row in rows if row]
 
 
 def run(word, data):
     done = subprocess.run([TOOL, word], input=data, capture_output=True)
     return done.returncode, done.stdout, done.stderr.decode()
+
+
+def unable(command, words):
+    """Whether the tool ends with status 2 and says so in one line."""
+    done = subprocess.run(['sh', '-c', command, TOOL], input=U.encode(), capture_output=True)
+    said = done.stderr.decode()
+    return done.returncode == 2 and said.startswith('jobfile: ') and words in said and said.count('\n') == 1
+
+
+def broken_pipe():
+    """Whether the same holds where nobody reads any more."""
+    reading, writing = os.pipe()
+    os.close(reading)
+    done = subprocess.run([TOOL, 'make'], input=U.encode(), stdout=writing, stderr=subprocess.PIPE)
+    os.close(writing)
+    return done.returncode == 2 and done.stderr == b'jobfile: standard output cannot be written: Broken pipe\n'
 
 
 def random_file(dice):
@@ -88,17 +139,32 @@ def cases():
     dice = random.Random(4)
     for number in range(20):
         file = random_file(dice)
-        yield f'round trip {number}', run('make', run('show', file)[1]) == (0, file, '')
+        yield f'round trip {number}', run('make', run('show', file)[1])[:2] == (0, file)
     noted = U_FILE + U_FILE[:-24] + b'notes' + U_FILE[-24:-4] + struct.pack('<I', 133)
     passed_over = '# passed over: 152 bytes before the records, 5 behind them\n'
     yield 'older save and notes', run('show', noted) == (0, (passed_over + SHOWN).encode(), '')
     for text, line, words in ERRORS:
         status, out, said = run('make', text.encode())
-        yield f'error {words!r}', (status, out) == (1, b'') and said.startswith(f'jobfile: line {line}: ') and words in said
+        yield f'error {words!r}', (status, out) == (1, b'') and said.startswith(f'jobfile: line {line}: ') and words in said and len(said) < 200
     for file, words in BAD_FILES:
         status, out, said = run('show', file)
         yield f'bad file {words!r}', (status, out) == (1, b'') and words in said
     yield 'usage', run('take', b'')[0] == 2
+    yield 'help', run('--help', b'')[::2] == (0, '') and b'job unpack 4' in run('--help', b'')[1]
+    yield 'byte order mark', run('make', b'\xef\xbb\xbf' + U.encode()) == (0, U_FILE, '')
+    yield 'zeros before a number', run('make', U.replace('bound 12', 'bound ' + '0' * 9999 + '12').encode()) == (0, U_FILE, '')
+    table = refusal_words()
+    with open(os.path.join(ROOT, 'tools/refusals'), encoding='utf-8') as lines:
+        yield 'words of the refusals', [tuple(line.rstrip('\n').split('|')) for line in lines] == table and len(table) == 18
+    for text, number, place in WARNED:
+        status, out, said = run('make', text.encode())
+        _, words, where = table[number - 1]
+        wanted = f'refusal {number}: {words}' + (f'; place {place}: {where}' if where != '0' else '') + '\n'
+        yield f'warning of {number} at {place}', status == 0 and len(out) >= 24 and said.startswith('jobfile: warning: ') and said.endswith(wanted)
+    yield 'no warning', run('make', IN_ORDER.encode())[::2] == (0, '')
+    for command, words in UNABLE:
+        yield f'unable: {command}', unable(command, words)
+    yield 'a broken pipe', broken_pipe()
 
 
 def main():

@@ -1,0 +1,289 @@
+"""Job files from readable text, and back.
+
+    tools/jobfile make < TEXT > FILE
+    tools/jobfile show < FILE > TEXT
+
+The text, a line a thing; what stands behind # is a comment, and blank lines mean nothing:
+
+    facts packed unpacked wet       names of facts, numbered in order from 0; the line may come again for more
+    open packed                     the opening facts; may be left out, may come again
+    goals wet                       the goals; likewise
+    bound 12                        in quarter hours; exactly once
+    job unpack 4: packed -> unpacked - packed
+                                    name, duration: conditions -> additions - deletions; each list may be empty, and
+                                    without deletions the lone - may be left out. Jobs are numbered in order from 0
+    atoms 5                         the atom count, where it is not the number of facts named
+
+A name begins with a letter and goes on with letters, digits, '-', '_' and '.'. Facts are named before they are used.
+The text may hold anything that a file can hold: where the planner will refuse it, a warning on standard error says
+so, and the file is made all the same. `show` names facts f0, f1 .. and jobs j0, j1 .. and shows the last save of a file.
+Status 1 with a line on standard error where the text or the file is wrong, 2 where it cannot be read or the result written.
+"""
+import os
+import re
+import signal
+import struct
+import sys
+
+NAME = re.compile(r'[A-Za-z][A-Za-z0-9_.-]*')
+RECORD, TRAILER = 32, 24
+MOST_FACTS, MOST_JOBS, MOST_SHORT, LONGEST_FILE, LONGEST_TEXT = 64, 255, 65535, 65536, 1 << 24
+REFUSALS = os.path.join(os.path.dirname(os.path.realpath(__file__)), 'refusals')
+
+
+class Wrong(Exception):
+    """What is wrong with a text or a file, in words."""
+
+
+class Unable(Exception):
+    """What cannot be read or written, in words."""
+
+
+def short(word):
+    """A word as it may stand in a line."""
+    return word if len(word) <= 40 else word[:40] + '..'
+
+
+def number_in(text, most, what):
+    digits = text.lstrip('0') or '0'
+    if not text.isascii() or not text.isdigit() or len(digits) > len(str(most)) or int(digits) > most:
+        raise Wrong(f'{what} is a number from 0 to {most}, not {short(text)!r}')
+    return int(digits)
+
+
+def only_word(words, what):
+    if len(words) != 1:
+        raise Wrong(f'{what} takes one number')
+    return words[0]
+
+
+class Text:
+    """What the lines read so far have said."""
+
+    def __init__(self):
+        self.facts, self.names, self.jobs = {}, set(), []
+        self.opening, self.goals, self.bound, self.atoms = 0, 0, None, None
+
+    def line(self, line):
+        first, *words = line.split()
+        reader = {'facts': self.read_facts, 'open': self.read_open, 'goals': self.read_goals, 'bound': self.read_bound,
+                  'atoms': self.read_atoms, 'job': self.read_job}.get(first)
+        if reader is None:
+            raise Wrong(f'a line begins with facts, open, goals, bound, atoms or job, not {short(first)!r}')
+        reader(words)
+
+    def read_facts(self, words):
+        for name in words:
+            demand_name(name)
+            if name in self.facts:
+                raise Wrong(f'fact {short(name)} is named twice')
+            if len(self.facts) == MOST_FACTS:
+                raise Wrong(f'fact {short(name)} is one more than {MOST_FACTS}')
+            self.facts[name] = len(self.facts)
+
+    def word(self, names):
+        """The facts of a list as bits."""
+        bits = 0
+        for name in names:
+            if name not in self.facts:
+                raise Wrong(f'no fact is named {short(name)}')
+            if bits >> self.facts[name] & 1:
+                raise Wrong(f'fact {short(name)} stands twice in one list')
+            bits |= 1 << self.facts[name]
+        return bits
+
+    def read_open(self, words):
+        self.opening |= self.word(words)
+
+    def read_goals(self, words):
+        self.goals |= self.word(words)
+
+    def read_bound(self, words):
+        if self.bound is not None:
+            raise Wrong('the bound is given twice')
+        self.bound = number_in(only_word(words, 'bound'), MOST_SHORT, 'the bound')
+
+    def read_atoms(self, words):
+        if self.atoms is not None:
+            raise Wrong('the atom count is given twice')
+        self.atoms = number_in(only_word(words, 'atoms'), 255, 'the atom count')
+
+    def read_job(self, words):
+        before, colon, lists = ' '.join(words).partition(':')
+        if not colon or len(before.split()) != 2:
+            raise Wrong('a job is: job NAME DURATION: CONDITIONS -> ADDITIONS - DELETIONS')
+        name, duration = before.split()
+        demand_name(name)
+        if name in self.names:
+            raise Wrong(f'job {short(name)} is named twice')
+        if len(self.jobs) == MOST_JOBS:
+            raise Wrong(f'job {short(name)} is one more than {MOST_JOBS}')
+        duration = number_in(duration, MOST_SHORT, 'a duration')
+        self.jobs.append((*map(self.word, split_lists(lists.split())), duration))
+        self.names.add(name)
+
+    def file(self):
+        """The bytes of the file: records, then trailer."""
+        if self.bound is None:
+            raise Wrong('there is no bound')
+        atoms = len(self.facts) if self.atoms is None else self.atoms
+        records = b''.join(struct.pack('<QQQH6x', *job) for job in self.jobs)
+        return records + struct.pack('<QQHBBI', self.opening, self.goals, self.bound, len(self.jobs), atoms, len(records))
+
+
+def refusal_of(file):
+    """The number and the place with which the planner refuses a file that was made, None where it plans; 10 is the planner's own."""
+    jobs, (opening, goals, bound, atoms), _ = take_apart(file)
+    over = [number for number, job in enumerate(jobs) if (job[0] | job[1] | job[2]) >> atoms]
+    over += [24] if (opening | goals) >> atoms else []
+    checks = [(4, [0] if not 1 <= atoms <= MOST_FACTS else []), (5, [0] if len(jobs) > 24 else []),
+              (6, [number for number, job in enumerate(jobs) if not 1 <= job[3] <= 960]), (7, over),
+              (8, [number for number, job in enumerate(jobs) if job[1] & job[2]]), (9, [0] if bound > 2880 else [])]
+    return next(((number, places[0]) for number, places in checks if places), None)
+
+
+def warning_of(number, place):
+    """A refusal in words, those of the file that bench-plan has them from."""
+    with open(REFUSALS, encoding='utf-8') as lines:
+        words, where = dict(line.rstrip('\n').split('|', 1) for line in lines)[str(number)].split('|')
+    return f'the planner will refuse this, refusal {number}: {words}' + (f'; place {place}: {where}' if where != '0' else '')
+
+
+def demand_name(name):
+    if not NAME.fullmatch(name):
+        raise Wrong(f"{short(name)!r} is no name: a letter, then letters, digits, '-', '_' and '.'")
+
+
+def split_lists(words):
+    """Conditions, additions and deletions."""
+    if words.count('->') != 1:
+        raise Wrong('one -> stands between the conditions and the additions')
+    at = words.index('->')
+    conditions, effects = words[:at], words[at + 1:]
+    if '-' in conditions or effects.count('-') > 1:
+        raise Wrong('one lone - stands before the deletions, behind the additions')
+    at = effects.index('-') if '-' in effects else len(effects)
+    return conditions, effects[:at], effects[at + 1:]
+
+
+def file_of(text):
+    """The file that a text describes; what is wrong is said with its line."""
+    read, number = Text(), 0
+    try:
+        for number, line in enumerate(text.splitlines(), 1):
+            line = line.split('#')[0]
+            if line.strip():
+                read.line(line)
+        return read.file()
+    except Wrong as wrong:
+        raise Wrong(f'line {number}: {wrong}') from None
+
+
+def take_apart(file):
+    """The records and the numbers of the last save, and how many bytes before and behind the records are passed over."""
+    if len(file) > LONGEST_FILE:
+        raise Wrong(f'the file has more than {LONGEST_FILE} bytes')
+    if len(file) < TRAILER:
+        raise Wrong(f'the file has {len(file)} bytes, fewer than a trailer of {TRAILER}')
+    opening, goals, bound, count, atoms, distance = struct.unpack('<QQHBBI', file[-TRAILER:])
+    front = len(file) - TRAILER
+    if not RECORD * count <= distance <= front:
+        raise Wrong(f'the distance {distance} is not from {RECORD * count} to {front}')
+    first = front - distance
+    records = [file[at:at + RECORD] for at in range(first, first + RECORD * count, RECORD)]
+    for number, record in enumerate(records):
+        if any(record[26:]):
+            raise Wrong(f'the six bytes behind the duration of job {number} are not zero')
+    jobs = [struct.unpack('<QQQH', record[:26]) for record in records]
+    return jobs, (opening, goals, bound, atoms), (first, distance - RECORD * count)
+
+
+def fact_names(word):
+    return ''.join(f' f{fact}' for fact in range(MOST_FACTS) if word >> fact & 1)
+
+
+def job_line(number, job):
+    conditions, additions, deletions, duration = job
+    behind = ' -' + fact_names(deletions) if deletions else ''
+    return f'job j{number} {duration}:{fact_names(conditions)} ->{fact_names(additions)}{behind}'
+
+
+def text_of(file):
+    """The text of the last save."""
+    jobs, (opening, goals, bound, atoms), (before, behind) = take_apart(file)
+    used = opening | goals
+    for conditions, additions, deletions, _ in jobs:
+        used |= conditions | additions | deletions
+    # Facts at or above the atom count have names too, so that a text can be made of any file.
+    named = max(min(atoms, MOST_FACTS), used.bit_length())
+    lines = [f'# passed over: {before} bytes before the records, {behind} behind them'] if before or behind else []
+    if named:
+        lines.append('facts' + ''.join(f' f{fact}' for fact in range(named)))
+    lines += [f'atoms {atoms}'] if atoms != named else []
+    lines += ['open' + fact_names(opening), 'goals' + fact_names(goals), f'bound {bound}']
+    lines += [job_line(number, job) for number, job in enumerate(jobs)]
+    return ''.join(line + '\n' for line in lines)
+
+
+def taken(most):
+    """Standard input up to one byte more than may be."""
+    parts, left = [], most + 1
+    try:
+        while left and (part := os.read(0, left)):
+            parts.append(part)
+            left -= len(part)
+    except OSError as error:
+        raise Unable(f'standard input cannot be read: {error.strerror}') from None
+    return b''.join(parts)
+
+
+def give(result):
+    try:
+        while result:
+            result = result[os.write(1, result):]
+    except OSError as error:
+        raise Unable(f'standard output cannot be written: {error.strerror}') from None
+
+
+def say(line):
+    # Where standard error is closed too there is nobody to tell.
+    try:
+        os.write(2, f'jobfile: {line}\n'.encode('utf-8', 'backslashreplace'))
+    except OSError:
+        pass
+
+
+def make():
+    text = taken(LONGEST_TEXT)
+    if len(text) > LONGEST_TEXT:
+        raise Wrong(f'the text has more than {LONGEST_TEXT} bytes')
+    file = file_of(text.decode('utf-8-sig', 'replace'))
+    refusal = refusal_of(file)
+    if refusal:
+        say('warning: ' + warning_of(*refusal))
+    give(file)
+
+
+def show():
+    give(text_of(taken(LONGEST_FILE)).encode())
+
+
+def main(words):
+    signal.signal(signal.SIGINT, signal.SIG_DFL)
+    action = {('make',): make, ('show',): show, ('--help',): lambda: give(__doc__.encode())}.get(tuple(words))
+    if action is None:
+        say('usage: jobfile make < TEXT > FILE, or jobfile show < FILE > TEXT; jobfile --help says more')
+        return 2
+    try:
+        action()
+    except Wrong as wrong:
+        say(wrong)
+        return 1
+    except (Unable, OSError) as error:
+        say(error)
+        return 2
+    return 0
+
+
+if __name__ == '__main__':
+    sys.exit(main(sys.argv[1:]))
