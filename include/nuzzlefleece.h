@@ -21,6 +21,10 @@
 extern "C" {
 #endif
 
+/* The version that this header describes, 10,000 times the first number, 100 times the second, and the third: 1.0.0.
+ * nuzzlefleece_version() returns that of the library linked; where the two differ, header and library are not of one build. */
+#define NUZZLEFLEECE_VERSION 10000
+
 /* Sizes and limits. A fact is a number below the atom count; a word of facts has fact 0 in its lowest bit. */
 enum {
     NUZZLEFLEECE_OUT = 65535,           /* as a start: the job is not in the plan; as an estimate: never reachable */
@@ -41,7 +45,8 @@ enum {
     NUZZLEFLEECE_PAGE_BYTES = 8192      /* lent for the text of a page */
 };
 
-/* Refusals, checked in the order of their numbers. All that take or write a job table check 3 to 8, and 9 where there is a bound. */
+/* Refusals, checked in the order of their numbers. All that take or write a job table check 3 to 8, and 9 where there is a bound.
+ * The place is 0 where the comment names none. A job is named by its number in the table, a fact by its own, a pair by its number in the list asked. */
 enum {
     NUZZLEFLEECE_DONE = 0,
     NUZZLEFLEECE_FILE_TOO_LONG = 1,      /* the file, or the file after appending, has over 65,536 bytes */
@@ -64,12 +69,40 @@ enum {
     NUZZLEFLEECE_MARK_WRONG = 18         /* place: 16 for more than 16 marks, else the lowest mark out of range */
 };
 
-/* A job: three words of facts and the quarter hours it takes. */
+/* What a refusal says, in words; the place is said by the comments above. */
+static inline const char *nuzzlefleece_words(unsigned number) {
+    static const char *const words[] = {
+        "done",
+        "file, or file after appending, over 65,536 bytes",
+        "file under 24 bytes, distance out of range, or one of a record's six last bytes not zero",
+        "a lent table or buffer is too short",
+        "atom count not 1 to 64",
+        "more than 24 jobs",
+        "a duration not 1 to 960",
+        "a fact at or above the atom count",
+        "a job adds and deletes one fact",
+        "bound over 2,880",
+        "no valid plan within the bound",
+        "offered plan: a job ends after the bound",
+        "offered plan: interfering jobs overlap",
+        "offered plan: a condition missing at a start",
+        "offered plan: a goal missing",
+        "settling: set names no such job; more than 600 pairs; a pair outside the set",
+        "settling: no such starts",
+        "reading not finite or out of range",
+        "more than 16 marks, or a mark out of range",
+    };
+    return number < sizeof words / sizeof words[0] ? words[number] : "no such refusal";
+}
+
+/* A job: three words of facts and the quarter hours it takes. The bytes behind are reserved, to be zero: a later version will read them.
+ * Initialise the fields by name, and they are. */
 typedef struct nuzzlefleece_action {
     uint64_t conditions;
     uint64_t additions;
     uint64_t deletions;
     uint16_t duration;
+    uint8_t reserved[6];
 } nuzzlefleece_action;
 
 /* The numbers of a call; set and pairs are looked at by settling alone, the bound by all but the estimates. */
@@ -118,6 +151,9 @@ typedef struct nuzzlefleece_opening {
 /* The library has these layouts; another compiler's would stop here. */
 typedef char nuzzlefleece_layouts[sizeof(nuzzlefleece_action) == 32 && sizeof(nuzzlefleece_ask) == 56 && sizeof(nuzzlefleece_answer) == 8
     && sizeof(nuzzlefleece_save) == 64 && sizeof(nuzzlefleece_read_answer) == 64 && sizeof(nuzzlefleece_opening) == 16 ? 1 : -1];
+
+/* The version of the library. */
+uint32_t nuzzlefleece_version(void);
 
 /*
  * Checks an offered plan, one start a job, NUZZLEFLEECE_OUT for a job that is out.

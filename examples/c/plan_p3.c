@@ -8,11 +8,10 @@
 static const char *const names[] = {"unpack", "drench", "warm", "wash"};
 
 static const nuzzlefleece_action jobs[] = {
-    /* needs, adds, deletes, quarter hours */
-    {FACT(0), FACT(1), FACT(0), 4},
-    {FACT(1), FACT(2), 0, 2},
-    {FACT(1), FACT(3), 0, 8},
-    {FACT(1), FACT(4), FACT(2), 3},
+    {.conditions = FACT(0), .additions = FACT(1), .deletions = FACT(0), .duration = 4},
+    {.conditions = FACT(1), .additions = FACT(2), .duration = 2},
+    {.conditions = FACT(1), .additions = FACT(3), .duration = 8},
+    {.conditions = FACT(1), .additions = FACT(4), .deletions = FACT(2), .duration = 3},
 };
 
 /* A line a job: when it starts and finishes, or that it is out. */
@@ -27,11 +26,15 @@ static void print_plan(const uint16_t *starts, size_t count) {
 }
 
 static int refused(nuzzlefleece_answer answer) {
-    printf("refused %d %d\n", answer.number, answer.place);
+    printf("refused %d %d: %s\n", answer.number, answer.place, nuzzlefleece_words(answer.number));
     return 1;
 }
 
 int main(void) {
+    if (nuzzlefleece_version() != NUZZLEFLEECE_VERSION) {
+        puts("header and library are of two versions");
+        return 1;
+    }
     nuzzlefleece_ask ask = {.jobs = 4, .atoms = 5, .opening = FACT(0), .goals = FACT(2) | FACT(3) | FACT(4), .bound = 2880};
     uint16_t starts[4] = {0};
     uint8_t pairs[NUZZLEFLEECE_PAIRS_BYTES] = {0};

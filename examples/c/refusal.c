@@ -8,19 +8,15 @@
 static const char *const names[] = {"unpack", "drench", "warm", "wash"};
 
 static const nuzzlefleece_action jobs[] = {
-    /* needs, adds, deletes, quarter hours */
-    {FACT(0), FACT(1), FACT(0), 4},
-    {FACT(1), FACT(2), 0, 2},
-    {FACT(1), FACT(3), 0, 8},
-    {FACT(1), FACT(4), FACT(2), 3},
+    {.conditions = FACT(0), .additions = FACT(1), .deletions = FACT(0), .duration = 4},
+    {.conditions = FACT(1), .additions = FACT(2), .duration = 2},
+    {.conditions = FACT(1), .additions = FACT(3), .duration = 8},
+    {.conditions = FACT(1), .additions = FACT(4), .deletions = FACT(2), .duration = 3},
 };
 
 /* The number and the place of a refusal in words. */
 static void explain(nuzzlefleece_answer answer) {
     switch (answer.number) {
-    case NUZZLEFLEECE_NO_PLAN:
-        puts("there is no valid plan");
-        break;
     case NUZZLEFLEECE_OVERLAP:
         printf("%s overlaps a job that it interferes with\n", names[answer.place]);
         break;
@@ -28,7 +24,7 @@ static void explain(nuzzlefleece_answer answer) {
         printf("%s lacks a condition at its start\n", names[answer.place]);
         break;
     default:
-        printf("refused %d %d\n", answer.number, answer.place);
+        printf("refused %d %d: %s\n", answer.number, answer.place, nuzzlefleece_words(answer.number));
     }
 }
 
@@ -48,6 +44,10 @@ static int mend(nuzzlefleece_ask ask, uint16_t *starts) {
 }
 
 int main(void) {
+    if (nuzzlefleece_version() != NUZZLEFLEECE_VERSION) {
+        puts("header and library are of two versions");
+        return 1;
+    }
     nuzzlefleece_ask ask = {.jobs = 4, .atoms = 5, .opening = FACT(0), .goals = FACT(2) | FACT(3) | FACT(4), .bound = 12};
     uint16_t starts[4] = {0, 5, 4, 4};
     nuzzlefleece_answer answer;

@@ -12,7 +12,10 @@
 static int passed, failed;
 
 static const nuzzlefleece_action p3[] = {
-    {FACT(0), FACT(1), FACT(0), 4}, {FACT(1), FACT(2), 0, 2}, {FACT(1), FACT(3), 0, 8}, {FACT(1), FACT(4), FACT(2), 3},
+    {.conditions = FACT(0), .additions = FACT(1), .deletions = FACT(0), .duration = 4},
+    {.conditions = FACT(1), .additions = FACT(2), .duration = 2},
+    {.conditions = FACT(1), .additions = FACT(3), .duration = 8},
+    {.conditions = FACT(1), .additions = FACT(4), .deletions = FACT(2), .duration = 3},
 };
 static const nuzzlefleece_ask p3_ask = {4, 5, FACT(0), FACT(2) | FACT(3) | FACT(4), 12, 0, 0};
 static const uint16_t p3_starts[] = {0, 7, 4, 4};
@@ -87,7 +90,7 @@ static void answers_settling(void) {
 /* A save is read back, and its page is bench-plan's text. */
 static void answers_files(void) {
     static uint8_t file[200], text[NUZZLEFLEECE_PAGE_BYTES];
-    nuzzlefleece_action back[4] = {{0, 0, 0, 0}};
+    nuzzlefleece_action back[4] = {{.duration = 0}};
     nuzzlefleece_save save = {p3_ask, 10};
     nuzzlefleece_read_answer read;
     says("write file", nuzzlefleece_write_file(p3, 4, save, file, sizeof file), 0, 0, 10 + 4 * 32 + 24);
@@ -147,7 +150,7 @@ static void takes_null(void) {
 /* The refusals of a table, by the call that returns a value of its own on refusal. */
 static void refuses_tables(void) {
     uint16_t out[30] = {0};
-    nuzzlefleece_action jobs[30], job = {1, 2, 0, 1};
+    nuzzlefleece_action jobs[30], job = {.conditions = 1, .additions = 2, .duration = 1};
     nuzzlefleece_ask ask = {.jobs = (size_t)-1, .atoms = 64};
     for (size_t i = 0; i < 30; i++) {
         jobs[i] = job;
@@ -174,7 +177,18 @@ static void refuses_tables(void) {
     says("no opening facts", nuzzlefleece_least_bound(jobs, 30, ask, out, 30), NUZZLEFLEECE_NO_PLAN, 0, 65535);
 }
 
+/* Header and library are of one version, records are as long as in a file, and every refusal has words. */
+static void describes_itself(void) {
+    expect("version", nuzzlefleece_version() == NUZZLEFLEECE_VERSION);
+    expect("a record has 32 bytes", sizeof(nuzzlefleece_action) == NUZZLEFLEECE_RECORD_BYTES);
+    for (unsigned number = 0; number <= NUZZLEFLEECE_MARK_WRONG; number++) {
+        expect("words of a refusal", strcmp(nuzzlefleece_words(number), nuzzlefleece_words(19)) != 0);
+    }
+    expect("no more refusals", strcmp(nuzzlefleece_words(19), "no such refusal") == 0);
+}
+
 int main(void) {
+    describes_itself();
     answers_p3();
     answers_estimates();
     answers_settling();

@@ -8,6 +8,7 @@ ghost use Rattle.settle.specs.Settle.{Settling};
 ghost use Rattle.planning.specs.Planning.{PlansWithin, BoundsWithin};
 ghost use Rattle.jobfile.specs.Calls.{Writes};
 ghost use Rattle.records.specs.Records.{loaded};
+ghost use Rattle.nuzzlefleece.specs.Version.{version};
 ghost use Rattle.nuzzlefleece.specs.Files.{told, Reads};
 ghost use Rattle.readings.specs.Marks.{marksOf};
 ghost use Rattle.readings.specs.Opening.{Opens};
@@ -19,6 +20,14 @@ use tables::Action;
 use tables::Answer;
 use tables::Ask;
 use tables::Loaded;
+
+// The version of the library: 10,000 times the first number, 100 times the second, and the third.
+#[no_mangle]
+pub extern "C" fn nuzzlefleece_version() -> u32
+    ensures { λ r. ⌜ r ≡ version ⌝ }
+{
+    10000
+}
 
 // The verdict on an offered plan.
 #[no_mangle]
