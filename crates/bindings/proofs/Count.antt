@@ -14,7 +14,7 @@ use Rattle.rules.specs.Table.{Problem}
 use Rattle.rules.specs.Premises.{InOrder}
 use Rattle.rules.specs.Plans.{Plan}
 use Rattle.rules.specs.Pairs.{binds, joined, pairIf, pairBytes}
-use Rattle.rules.proofs.Sums.{sum-le}
+use Rattle.rules.proofs.Sums.{sum-le, sum-of}
 use Rattle.rules.specs.Sums.{sum}
 use Rattle.rules.proofs.Named.{binds-once}
 
@@ -24,11 +24,6 @@ pub sum-add : (f g : ℕ → ℕ) (n : ℕ) → sum (λ i. f i + g i) n ≡ sum 
 unfolding sum
 sum-add f g zero = refl
 sum-add f g (suc k) = omega (arith, sum-add f g k)
-
-pub sum-of : (c n : ℕ) → sum (λ i. c) n ≡ n * c
-unfolding sum
-sum-of c zero = omega arith
-sum-of c (suc k) = omega (arith, sum-of c k, suc-mul k c)
 
 -- what stands in a square of n by n places, where two places that mirror each other hold 2 at most, and those in the middle nothing
 square : (t : ℕ → ℕ → ℕ) (n : ℕ) → ((a b : ℕ) → a < n → b < n → t a b + t b a ≤ 2) → ((a : ℕ) → a < n → t a a ≡ 0) → sum (λ a. sum (t a) n) n + n ≤ n * n

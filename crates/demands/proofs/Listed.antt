@@ -1,11 +1,12 @@
--- Every binding pair stands in the bytes of the list.
+-- Exactly the binding pairs stand in the bytes of the list.
 -- Assumes nothing.
-use mathlib.Core.Path.{_≡_, refl, _∙_, subst}
-use mathlib.Core.Logic.{⊎-elim}
+use mathlib.Core.Path.{_≡_, refl, sym, _∙_, subst}
+use mathlib.Core.Logic.{⊎-elim, _↔_}
 use mathlib.Core.Bool.{Bool, true, false}
 use mathlib.Core.List.{List, [], _∷_, _++_}
-use Prim.Native.Nat.{ℕ, zero, suc, _+_, _*_, _/_, _≤_, _<_}
+use Prim.Native.Nat.{ℕ, zero, suc, _+_, _-_, _*_, _/_, _≤_, _<_}
 use native.Mathlib.Omega.{arith}
+use native.Mathlib.Decide.{decLt}
 use lib.Dec.{T}
 use lib.ListN.{length, getD, length-append, List·getD-append}
 use Rattle.facts.proofs.Bools.{below-suc}
@@ -14,7 +15,7 @@ use Rattle.rules.specs.Plans.{Plan}
 use Rattle.rules.specs.Pairs.{binds, joined, pairIf, pairBytes}
 use Rattle.tables.proofs.Lent.{filled-at}
 use Rattle.bindings.specs.Bindings.{written}
-use Rattle.demands.specs.Kept.{InBytes}
+use Rattle.demands.specs.Kept.{InBytes, BindsIn}
 
 -- a, then b, at an even place of the list
 record At (ys : List ℕ) (a b : ℕ) : Type 0 where
@@ -79,13 +80,53 @@ unfolding pairBytes
 at-pairs P s a b l m h = at-in-order (λ a. joined (λ b. pairIf (binds P s a b) a b) (P .count)) (P .count) a (λ i. even-in-order (λ b. pairIf (binds P s i b) i b) (P .count) (λ j. even-pair (binds P s i j) i j)) l
     (at-in-order (λ b. pairIf (binds P s a b) a b) (P .count) b (λ j. even-pair (binds P s a j) a j) m (at-pair (binds P s a b) a b h))
 
--- a binding pair is listed in the bytes written, if they have room
-pub listed : (P : Problem) (s : Plan) (old : List ℕ) (a b : ℕ) → length (pairBytes P s) ≤ length old → a < P .count → b < P .count → T (binds P s a b)
-    → InBytes (written (pairBytes P s) old) (length (pairBytes P s) / 2) a b
-listed P s old a b r l m h =
-    let x = at-pairs P s a b l m h in (
-      x .i,
-      omega (arith, x .within),
-      filled-at (λ i. getD (pairBytes P s) i 0) (length (pairBytes P s)) old (2 * x .i) 0 (omega (arith, x .within)) (omega (arith, x .within)) ∙ x .first,
-      filled-at (λ i. getD (pairBytes P s) i 0) (length (pairBytes P s)) old (2 * x .i + 1) 0 (x .within) (omega (arith, x .within)) ∙ x .second,
-    )
+-- ── and no other ──
+
+-- R is so of each pair of the list
+abbrev Each : (ℕ → ℕ → Type 0) → List ℕ → Type 0
+Each R ys = (i : ℕ) → 2 * i + 1 < length ys → R (getD ys (2 * i) 0) (getD ys (2 * i + 1) 0)
+
+same-pair : (R : ℕ → ℕ → Type 0) {a b c d : ℕ} → a ≡ c → b ≡ d → R c d → R a b
+same-pair R {a} {b} {c} {d} e f x = subst (λ (y : ℕ). R y b) (sym e) (subst (λ (y : ℕ). R c y) (sym f) x)
+
+each-append : (R : ℕ → ℕ → Type 0) (ys zs : List ℕ) → Even ys → Each R ys → Each R zs → Each R (ys ++ zs)
+each-append R ys zs (k, e) f g i l = go (decLt i k)
+  where
+    go : Dec (i < k) → R (getD (ys ++ zs) (2 * i) 0) (getD (ys ++ zs) (2 * i + 1) 0)
+    go (yes m) = same-pair R (List·getD-append ys zs 0 (2 * i) (omega (arith, e))) (List·getD-append ys zs 0 (2 * i + 1) (omega (arith, e))) (f i (omega (arith, e)))
+    go (no m) = same-pair R (behind ys zs (2 * (i - k)) (2 * i) (omega (arith, e))) (behind ys zs (2 * (i - k) + 1) (2 * i + 1) (omega (arith, e)))
+        (g (i - k) (omega (arith, e, l, length-append ys zs)))
+
+each-in-order : (R : ℕ → ℕ → Type 0) (f : ℕ → List ℕ) (n : ℕ) → ((i : ℕ) → Even (f i)) → ((i : ℕ) → i < n → Each R (f i)) → Each R (joined f n)
+unfolding joined
+each-in-order R f zero v h i l = absurd (omega arith)
+each-in-order R f (suc k) v h i l = each-append R (joined f k) (f k) (even-in-order f k v) (each-in-order R f k v (λ j m. h j (omega arith))) (h k (omega arith)) i l
+
+each-pair : (R : ℕ → ℕ → Type 0) (t : Bool) (a b : ℕ) → (T t → R a b) → Each R (pairIf t a b)
+unfolding pairIf
+each-pair R true a b h zero l = h tt
+each-pair R true a b h (suc i) l = absurd (omega arith)
+each-pair R false a b h i l = absurd (omega arith)
+
+each-pairs : (P : Problem) (s : Plan) → Each (BindsIn P s) (pairBytes P s)
+unfolding pairBytes
+each-pairs P s = each-in-order (BindsIn P s) (λ a. joined (λ b. pairIf (binds P s a b) a b) (P .count)) (P .count)
+    (λ i. even-in-order (λ b. pairIf (binds P s i b) i b) (P .count) (λ j. even-pair (binds P s i j) i j))
+    (λ a l. each-in-order (BindsIn P s) (λ b. pairIf (binds P s a b) a b) (P .count) (λ j. even-pair (binds P s a j) a j)
+    (λ b m. each-pair (BindsIn P s) (binds P s a b) a b (λ t. (l, m, t))))
+
+-- the pairs in the bytes written, if they have room, are the binding pairs
+module _ (P : Problem) (s : Plan) (old : List ℕ) (room : length (pairBytes P s) ≤ length old) (a b : ℕ) where
+  at : (i : ℕ) → i < length (pairBytes P s) → getD (written (pairBytes P s) old) i 0 ≡ getD (pairBytes P s) i 0
+  at i l = filled-at (λ j. getD (pairBytes P s) j 0) (length (pairBytes P s)) old i 0 l (omega arith)
+
+  there : InBytes (written (pairBytes P s) old) (length (pairBytes P s) / 2) a b → BindsIn P s a b
+  there (i, l, e, f) = same-pair (BindsIn P s) (sym e ∙ at (2 * i) (omega arith)) (sym f ∙ at (2 * i + 1) (omega arith)) (each-pairs P s i (omega arith))
+
+  back : BindsIn P s a b → InBytes (written (pairBytes P s) old) (length (pairBytes P s) / 2) a b
+  back (l, m, h) =
+      let x = at-pairs P s a b l m h in
+      (x .i, omega (arith, x .within), at (2 * x .i) (omega (arith, x .within)) ∙ x .first, at (2 * x .i + 1) (x .within) ∙ x .second)
+
+  pub listed : InBytes (written (pairBytes P s) old) (length (pairBytes P s) / 2) a b ↔ BindsIn P s a b
+  listed = (there, back)

@@ -16,13 +16,14 @@ use Rattle.rules.specs.Premises.{InOrder}
 use Rattle.rules.specs.Plans.{starts, inPlan, spoils, interfere, ends, afterIf, finishes, holds, Valid}
 use Rattle.rules.specs.Verdicts.{late, overlap, clashes, unready, missing, planChecks}
 use Rattle.rules.proofs.Judged.{judged}
+use Rattle.rules.proofs.Orders.{wider}
 use Rattle.tables.specs.declared.Answer.{Answer}
 use Rattle.tables.specs.Tables.{problem, callChecks}
 use Rattle.tables.proofs.Lent.{filled-at}
 use Rattle.rules.proofs.Checked.{in-order}
 use Rattle.bindings.proofs.Useless.{jobsU, askU, plan3}
 use Rattle.planning.specs.Planning.{PlansWithin, BoundsWithin}
-use Rattle.planning.proofs.Found.{plan-found, plan-none, bound-found}
+use Rattle.planning.proofs.Found.{plan-found, plan-none, bound-found, bound-none}
 use Rattle.demands.proofs.SamePlan.{valid-same}
 
 -- goals {2, 3} within 12, and {2, 3, 4} within 14
@@ -113,6 +114,20 @@ module _ (old new : List ℕ) (r : Answer) (room : 4 ≤ length old) (p : PlansW
 
 -- ── the promise at P3 ──
 
--- a bound over 12 named as the least, those below it only said to have been tried
-pub only-claimed : (old new : List ℕ) (r : Answer) → BoundsWithin jobsU (askU 28 14) old new r → r .number ≡ 0 → 12 < r .value → ⊥
-only-claimed old new r p z l = bound-found jobsU (askU 28 14) old new r p z .ok .none 12 (starts plan3) l valid3
+passes3 : callChecks false 14 jobsU (askU 28 14) accepted ≡ accepted
+unfolding boundCheck tableChecks jobChecks between strays jobStrays undoes refuseAt refuseIf has any least further
+passes3 = refl
+
+module _ (old new : List ℕ) (r : Answer) (p : BoundsWithin jobsU (askU 28 14) old new r) where
+  -- a least bound that always says 10
+  pub least-always-10 : 4 ≤ length old → r .number ≡ 10 → ⊥
+  least-always-10 room z = bound-none jobsU (askU 28 14) old new r
+      (ap (λ (b : Bool). callChecks b 14 jobsU (askU 28 14) accepted) (le-ltb (length old) 4 room) ∙ passes3) p z _ (wider P3 12 14 (starts plan3) (omega arith) valid3)
+
+  -- one that names a bound over 12, those below it only said to have been tried
+  pub only-claimed : r .number ≡ 0 → 12 < r .value → ⊥
+  only-claimed z l = bound-found jobsU (askU 28 14) old new r p z .ok .none 12 (starts plan3) l valid3
+
+  -- so one that tries 0, where there is no plan, and gives the bound that was given
+  pub only-0-tried : r .number ≡ 0 → r .value ≡ 14 → ⊥
+  only-0-tried z e = only-claimed z (omega arith)

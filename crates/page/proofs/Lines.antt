@@ -12,9 +12,9 @@ use lib.ListN.{length, length-append}
 use Rattle.rules.specs.Table.{Problem}
 use Rattle.rules.specs.Plans.{Plan, finish}
 use Rattle.rules.specs.Pairs.{joined}
-use Rattle.rules.proofs.Sums.{sum-le}
+use Rattle.rules.proofs.Sums.{sum-le, sum-of}
 use Rattle.rules.specs.Sums.{sum}
-use Rattle.bindings.proofs.Count.{sum-add, sum-of, length-in-order}
+use Rattle.bindings.proofs.Count.{sum-add, length-in-order}
 use Rattle.page.specs.Page.{textIf, digit, decimal, numberThen, jobLine, jobsAt}
 use Rattle.page.proofs.Laws.{text-no}
 

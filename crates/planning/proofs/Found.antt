@@ -57,3 +57,7 @@ module _ (l : Loaded) (q : Ask) (old new : List ℕ) (r : Answer) where
         ok = subst (λ (x : ℕ). LeastBound (problem l q) (q .bound) x (a .s)) (sym (f .value)) (ruled-yes 10 (a .v) (omega arith) (a .behind (f .checks)) (f .zero) .1);
         table = f .table;
       }
+
+  -- and there 10 says the same
+  pub bound-none : C accepted ≡ accepted → BoundsWithin l q old new r → r .number ≡ 10 → NoPlan (problem l q) (q .bound)
+  bound-none e a z = ruled-no 10 (a .v) (omega arith) (a .behind e) (behind-number checks _ 65535 (q .jobs) old a e ∙ z) .1
