@@ -28,7 +28,7 @@ pub record Judges (v : Verdict) (A : Type 0) (r : Answer) : Type 0 where
   pub says : r ≡ answerOf v 0 0
   pub order : r .number ≡ 0 → A
 
--- what they give where they accept
+-- what checks 3 to 9 give where they accept
 pub record Cleared (short : Bool) (bound : ℕ) (l : Loaded) (q : Ask) : Type 0 where
   pub room : T short → ⊥
   pub few : q .jobs ≤ 24
