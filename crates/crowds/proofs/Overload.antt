@@ -14,7 +14,8 @@ use Rattle.rules.specs.Plans.{Plan, interfere}
 use Rattle.rules.proofs.Clash.{interfere-at}
 use Rattle.states.specs.State.{Search, St, Left, Dead, More}
 use Rattle.states.proofs.Keep.{left-back}
-use Rattle.crowds.specs.Crowds.{Group, SomeOf, GroupPlaced, Against, AllAgainst, CrowdOf, total, SoundGroup, GroupSeen, AllIn, Pile}
+use Rattle.groups.specs.OneOf.{SomeOf}
+use Rattle.crowds.specs.Crowds.{Group, GroupPlaced, Against, AllAgainst, CrowdOf, total, SoundGroup, GroupSeen, AllIn, Pile}
 use Rattle.crowds.proofs.Spans.{Span, Clear, AllClear, Spread, Within, length, room}
 
 module _ (P : Search) (s : St) (from till : ℕ) where

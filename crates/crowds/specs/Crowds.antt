@@ -7,15 +7,12 @@ use lib.Dec.{T}
 use Rattle.facts.specs.Facts.{has}
 use Rattle.rules.specs.Plans.{Plan, interfere}
 use Rattle.states.specs.State.{Search, HasJob, Ahead, St, Left, Sure}
+use Rattle.groups.specs.OneOf.{SomeOf}
 
 -- a word of jobs of which one is in, counted as one job: it keeps all others away for `long`
 pub record Group : Type 0 where
   pub jobs : ℕ
   pub long : ℕ
-
--- every plan left has some job of the word
-abbrev pub SomeOf : Search → St → (word : ℕ) → Type 0
-SomeOf P s w = (Q : Plan) → Left P s Q → (a : ℕ) × T (has w a) × HasJob P Q a
 
 -- in every plan left where a is over before b, b starts n or more after the start of a
 abbrev pub Away : Search → St → (a n b : ℕ) → Type 0
@@ -90,13 +87,9 @@ abbrev pub AllBeside : Search → St → (k n : ℕ) → List Group → Type 0
 AllBeside P s k n [] = Unit {0}
 AllBeside P s k n (g ∷ l) = Beside P s k n g × AllBeside P s k n l
 
--- every job of the group is over before k; k is over before every job of it
+-- every job of the group is over before k
 abbrev pub Precede : Search → St → (k : ℕ) → Group → Type 0
 Precede P s k g = (a : ℕ) → T (has (g .jobs) a) → Sure P s a k
-
--- k is over before every job of the group
-abbrev pub Follow : Search → St → (k : ℕ) → Group → Type 0
-Follow P s k g = (a : ℕ) → T (has (g .jobs) a) → Sure P s k a
 
 -- F is so of every group of the list
 abbrev pub All : (Group → Type 0) → List Group → Type 0

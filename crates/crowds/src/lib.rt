@@ -1,24 +1,14 @@
 // Jobs that exclude each other and have no room one beside the other.
 ghost use mathlib.Core.Path.{_≡_};
 ghost use mathlib.Core.Bool.{true};
-ghost use mathlib.Core.List.{List};
-ghost use Prim.Native.Nat.{ℕ, _≤_, _<_};
-ghost use lib.Dec.{T};
-ghost use Rattle.states.specs.State.{Search, there};
+ghost use Prim.Native.Nat.{_≤_, _<_};
 ghost use Rattle.cells.specs.View.{view, Prunes, Says, IsAhead};
-ghost use Rattle.facts.specs.Facts.{has};
 ghost use Rattle.facts.specs.Words.{Covers};
-ghost use Rattle.lent.specs.Lent.{wantsOf, hitsOf, Lent};
-ghost use Rattle.lent.specs.Consumers.{whoAt};
-ghost use Rattle.crowds.specs.Heaps.{KeepsFor, KeepsAllFor, Remainder, KeepsAway, AllKeepAway, NotBelow, Latest, StartsFrom, GroupClash, Joins, Heaps, OneIn, AllOneIn, Grows, StandsBeside, AllAfter, Heaped, Trusted, GroupsOf};
+ghost use Rattle.lent.specs.Lent.{hitsOf, Lent};
+ghost use Rattle.crowds.specs.Heaps.{StartsFrom, GroupClash, Joins, Heaps, StandsBeside, AllAfter, Heaped, Trusted, GroupsOf};
 use cells::State;
+use groups::Groups;
 use lent::Tables;
-
-// Words of jobs of each of which one job is in, each at the place of its first job; `used` are the jobs of all.
-pub struct Groups {
-    pub words: [u32; 24],
-    pub used: u32,
-}
 
 // The jobs of groups, each group's jobs, how long it keeps the others away, and the groups by their latest ends.
 pub struct Crowd {
@@ -45,164 +35,6 @@ fn later(x: u64, y: u64) -> u64
         return y;
     }
     x
-}
-
-// The smaller of m and how long job a keeps b away, if b can be behind it.
-fn nearer(s: &State, t: &Tables, a: usize, b: usize, m: u32) -> u32
-    requires { ⌜ a < 24 ⌝ }
-    ensures { λ r. ⌜ KeepsFor (now (s .entry)) (now (t .entry)) a b m r ⌝ }
-{
-    if 24 <= b {
-        return m;
-    }
-    if cells::never(s, a, b) {
-        return m;
-    }
-    let x = lent::wait(t, a, b);
-    if x < m {
-        return x;
-    }
-    m
-}
-
-// The smaller of m and how long job a keeps every job of the word away.
-fn hold(s: &State, t: &Tables, a: usize, w: u32, m: u32) -> u32
-    ensures { λ r. ⌜ KeepsAllFor (now (s .entry)) (now (t .entry)) w a m r ⌝ }
-{
-    if 24 <= a {
-        return m;
-    }
-    let mut x = m;
-    let mut v = w;
-    while v != 0 {
-        x = nearer(s, t, a, jobs::lowest(v), x);
-        v = jobs::rest(v);
-    }
-    x
-}
-
-// The jobs of w that are not in v.
-fn outside(w: u32, v: u32) -> u32
-    ensures { λ r. ⌜ Remainder w v r ⌝ }
-{
-    w & !v
-}
-
-// How long the jobs of a group keep all jobs of the crowd outside it away, if it is one of the crowd.
-fn holds(s: &State, t: &Tables, w: u32, group: u32) -> u32
-    ensures { λ r. ⌜ KeepsAway (now (s .entry)) (now (t .entry)) w group r ⌝ }
-{
-    if !jobs::within(group, w) {
-        return 0;
-    }
-    let others = outside(w, group);
-    let mut x: u32 = 65535;
-    let mut v = group;
-    while v != 0 {
-        x = hold(s, t, jobs::lowest(v), others, x);
-        v = jobs::rest(v);
-    }
-    x
-}
-
-// The same for every group.
-fn lengths(s: &State, t: &Tables, w: u32, words: [u32; 24]) -> [u32; 24]
-    ensures { λ r. ⌜ AllKeepAway (now (s .entry)) (now (t .entry)) w words r 24 ⌝ }
-{
-    let mut long = [0u32; 24];
-    for a in 0..24 {
-        long[a] = holds(s, t, w, words[a]);
-    }
-    long
-}
-
-// The later of m and the latest start of job a.
-fn further(s: &State, a: usize, m: u32) -> u32
-    ensures { λ r. ⌜ NotBelow (now (s .entry)) a m r ⌝ }
-{
-    if 24 <= a {
-        return m;
-    }
-    let x = cells::hi(s, a);
-    if m < x {
-        return x;
-    }
-    m
-}
-
-// The latest start of the jobs of a group.
-fn latest(s: &State, group: u32) -> u32
-    ensures { λ r. ⌜ Latest (now (s .entry)) group r ⌝ }
-{
-    let mut x: u32 = 0;
-    let mut v = group;
-    while v != 0 {
-        x = further(s, jobs::lowest(v), x);
-        v = jobs::rest(v);
-    }
-    x
-}
-
-// When a group is gone at the latest, if it has jobs, else after all.
-fn gone_by(s: &State, group: u32, long: u32) -> u64 {
-    if group == 0 {
-        return 8589934592;
-    }
-    cells::sum(latest(s, group), long)
-}
-
-// The same for every group.
-fn ends(s: &State, words: [u32; 24], long: [u32; 24]) -> [u64; 24] {
-    let mut gone = [0u64; 24];
-    for a in 0..24 {
-        gone[a] = gone_by(s, words[a], long[a]);
-    }
-    gone
-}
-
-// When the group of job j is gone, for 24 after all.
-fn end(gone: [u64; 24], j: usize) -> u64 {
-    if 24 <= j {
-        return 8589934592;
-    }
-    gone[j]
-}
-
-// The group of the word that is gone first, at the latest; any answer is right.
-fn soonest(gone: [u64; 24], w: u32) -> usize {
-    let mut best: usize = 24;
-    let mut v = w;
-    while v != 0 {
-        let j = jobs::lowest(v);
-        if end(gone, j) < end(gone, best) {
-            best = j;
-        }
-        v = jobs::rest(v);
-    }
-    best
-}
-
-// The word without job j.
-fn without(w: u32, j: usize) -> u32 {
-    if 24 <= j {
-        return 0;
-    }
-    outside(w, jobs::with(0, j))
-}
-
-// The groups of the word by their latest ends. Any order is right; this one finds most.
-fn by_end(gone: [u64; 24], w: u32) -> [usize; 24] {
-    let mut order = [24usize; 24];
-    let mut v = w;
-    for k in 0..24 {
-        if v == 0 {
-            return order;
-        }
-        let j = soonest(gone, v);
-        order[k] = j;
-        v = without(v, j);
-    }
-    order
 }
 
 // Job j starts at the time or later.
@@ -288,7 +120,7 @@ fn join(s: &State, t: &Tables, c: Crowd, j: usize, h: Heap) -> Heap
     if 4000000 < h.sum {
         return h;
     }
-    let gone = cells::sum(latest(s, group), x);
+    let gone = cells::sum(keeps::latest(s, group), x);
     Heap {
         from: h.from,
         members: h.members | group,
@@ -391,7 +223,7 @@ fn beside_all(s: &mut State, t: &Tables, w: u32, h: Heap)
     requires { ⌜ h .sum ≤ 5000000 ⌝ }
     ensures { λ _. ⌜ Prunes (Heaped (now (t .entry)) (now (s .entry)) w h) (now (s .entry)) (now (s .exit)) ⌝ }
 {
-    let mut v = outside(w, h.members);
+    let mut v = jobs::outside(w, h.members);
     while v != 0 {
         beside(s, t, w, h, jobs::lowest(v));
         v = jobs::rest(v);
@@ -488,9 +320,9 @@ fn overfull(s: &mut State, t: &Tables, g: Groups, w: u32) -> bool
     ensures { λ _. ⌜ Prunes (GroupsOf (now (t .entry)) (now (s .entry)) g) (now (s .entry)) (now (s .exit)) ⌝ }
 {
     let words = g.words;
-    let long = lengths(s, t, w, words);
-    let gone = ends(s, words, long);
-    let order = by_end(gone, w);
+    let long = keeps::lengths(s, t, w, words);
+    let gone = keeps::ends(s, words, long);
+    let order = keeps::by_end(gone, w);
     let c = Crowd {
         jobs: w,
         words,
@@ -572,128 +404,15 @@ fn some_full(s: &mut State, t: &Tables, g: Groups, first: u32) -> bool
     false
 }
 
-// Job j alone, if it is inside.
-fn alone_at(s: &State, j: usize) -> u32
-    requires { ⌜ j < 24 ⌝ }
-    ensures { λ r. ⌜ ((P : Search) → OneIn P (now (s .entry)) r) ⌝ }
-{
-    if !cells::inside(s, j) {
-        return 0;
-    }
-    jobs::with(0, j)
-}
-
-// The jobs inside, each alone.
-fn alone(s: &State) -> Groups
-    ensures { λ r. ⌜ ((P : Search) → AllOneIn P (now (s .entry)) (r .words) 24) ⌝ }
-{
-    let mut words = [0u32; 24];
-    for j in 0..24 {
-        words[j] = alone_at(s, j);
-    }
-    Groups {
-        words,
-        used: cells::insides(s),
-    }
-}
-
-// The jobs of the word that are inside, and not surely too late for the consumer b. Any word is right; this one saves work.
-fn ready(s: &State, b: usize, w: u32) -> u32
-    requires { ⌜ b ≤ 24 ⌝ }
-{
-    let v = w & cells::insides(s);
-    if b == 24 {
-        return v;
-    }
-    outside(v, cells::row_never(s, b))
-}
-
-// All candidates for the fact p of the consumer b, if it is there and Start is none.
-fn several(s: &State, t: &Tables, b: usize, p: usize) -> u32
-    requires { ⌜ (b ≤ 24) × (p < 64) ⌝ }
-    ensures { λ r. ⌜ (T (has (wantsOf (now (t .entry)) b) p) → T (there (view (now (s .entry))) (whoAt b)) → (P : Search) → Lent (now (t .entry)) P → OneIn P (now (s .entry)) r) ⌝ }
-{
-    let adders = lent::adders(t, p);
-    if ready(s, b, adders) != 0 {
-        return 0;
-    }
-    let dang = supports::dangers(s, b, lent::killers(t, p));
-    if supports::may_start(t, p, dang) {
-        return 0;
-    }
-    supports::cands(s, b, adders, dang)
-}
-
-// The same, if p is a condition of b.
-fn condition(s: &State, t: &Tables, b: usize, p: usize) -> u32
-    requires { ⌜ b ≤ 24 ⌝ }
-    ensures { λ r. ⌜ (T (there (view (now (s .entry))) (whoAt b)) → (P : Search) → Lent (now (t .entry)) P → OneIn P (now (s .entry)) r) ⌝ }
-{
-    if 64 <= p {
-        return 0;
-    }
-    if !facts::has(lent::wants(t, b), p) {
-        return 0;
-    }
-    several(s, t, b, p)
-}
-
-// The word more, if no job of it is used.
-fn noted(g: Groups, w: u32) -> Groups
-    ensures { λ r. ⌜ ((P : Search) (s : List ℕ) → OneIn P s w → AllOneIn P s (g .words) 24 → AllOneIn P s (r .words) 24) ⌝ }
-{
-    let j = jobs::lowest(w);
-    if 24 <= j {
-        return g;
-    }
-    if w & g.used != 0 {
-        return g;
-    }
-    let mut words = g.words;
-    words[j] = w;
-    Groups {
-        words,
-        used: g.used | w,
-    }
-}
-
-// The words of the conditions of b, or of the goals, more, if b is there.
-fn consumer(s: &State, t: &Tables, b: usize, g: Groups) -> Groups
-    requires { ⌜ b ≤ 24 ⌝ }
-    ensures { λ r. ⌜ Grows (now (s .entry)) (now (t .entry)) g r ⌝ }
-{
-    if !supports::there_for(s, b) {
-        return g;
-    }
-    let mut x = g;
-    let mut w = lent::wants(t, b);
-    while w != 0 {
-        x = noted(x, condition(s, t, b, lent::first(w)));
-        w = facts::rest(w);
-    }
-    x
-}
-
-// The jobs inside, each alone, and the words of all consumers.
-fn words_of(s: &State, t: &Tables) -> Groups
-    ensures { λ r. ⌜ ((P : Search) → Lent (now (t .entry)) P → AllOneIn P (now (s .entry)) (r .words) 24) ⌝ }
-{
-    let mut g = alone(s);
-    for b in 0..25 {
-        g = consumer(s, t, b, g);
-    }
-    g
-}
-
 // What jobs that exclude each other leave no room for: jobs inside, and with them one of several each; whether they have none themselves.
 pub fn crowded(s: &mut State, t: &Tables) -> bool
     ensures { λ _. ⌜ Prunes (Lent (now (t .entry))) (now (s .entry)) (now (s .exit)) ⌝ }
 {
     let inside = cells::insides(s);
-    let a = alone(s);
+    let a = groups::alone(s);
     if some_full(s, t, a, inside) {
         return true;
     }
-    let g = words_of(s, t);
-    some_full(s, t, g, outside(g.used, inside))
+    let g = groups::words_of(s, t);
+    some_full(s, t, g, jobs::outside(g.used, inside))
 }

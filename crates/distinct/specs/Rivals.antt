@@ -1,6 +1,5 @@
 -- Jobs that want one fact, no two of which can have the same support.
 -- Assumes nothing.
-use mathlib.Core.Path.{_≡_}
 use mathlib.Core.Logic.{_⊎_, _≢_}
 use mathlib.Core.List.{List}
 use Prim.Native.Nat.{ℕ, _<_}

@@ -5,32 +5,17 @@ use mathlib.Core.Logic.{_⊎_, inl, inr, ⊎-elim}
 use Prim.Native.Nat.{ℕ, zero, suc, _-_, _/_, _%_, _<_, _^_}
 use native.Mathlib.Nat.{pow-succ', lt-of-le-of-lt}
 use native.Mathlib.Omega.{arith}
-use native.Mathlib.Decide.{ℕ-discrete, decLt}
+use native.Mathlib.Decide.{decLt}
 use lib.Bits.{bitAnd, and-step, and-self, and-le-l, and-le-r}
-use lib.Count.{trailingZeros, under}
+use lib.Count.{trailingZeros}
 use lib.Dec.{T}
 use Rattle.facts.specs.Facts.{has}
 use Rattle.facts.proofs.Bools.{and-l}
-use Rattle.facts.proofs.Digits.{digit, digit-suc}
+use Rattle.facts.proofs.Digits.{digit, digit-suc, tz-odd, tz-even, parity}
 use Rattle.facts.proofs.Sets.{has-and, has-digit, digit-has, has-zero, has-lt, some-fact, lowest-fact}
 use Rattle.facts.specs.Least.{least}
 use Rattle.facts.specs.Walks.{Walk}
 use Rattle.facts.proofs.Least.{lowest}
-
-tz-odd : (k w : ℕ) → w % 2 ≡ 1 → trailingZeros (suc k) w ≡ 0
-unfolding trailingZeros
-tz-odd k w e = ap (λ (d : ℕ). under d (trailingZeros k (w / 2))) e
-
-tz-even : (k w : ℕ) → w % 2 ≡ 0 → trailingZeros (suc k) w ≡ suc (trailingZeros k (w / 2))
-unfolding trailingZeros
-tz-even k w e = ap (λ (d : ℕ). under d (trailingZeros k (w / 2))) e
-
-parity : (w : ℕ) → (w % 2 ≡ 0) ⊎ (w % 2 ≡ 1)
-parity w = pick (ℕ-discrete (w % 2) 1)
-  where
-    pick : Dec (w % 2 ≡ 1) → (w % 2 ≡ 0) ⊎ (w % 2 ≡ 1)
-    pick (yes e) = inr e
-    pick (no f) = inl (omega arith)
 
 -- the half of w & (w - 1)
 half-odd : (w : ℕ) → w % 2 ≡ 1 → bitAnd w (w - 1) / 2 ≡ w / 2

@@ -101,11 +101,11 @@ module _ {P : Search} (s : List ℕ) {p : ℕ} (b : ℕ) {R : ℕ} (c : Pending 
       gives = m .gives;
       inside = i;
       before = h;
-      clear = λ d k. ⊎-elim inr (λ n. inl (let j : d < 24 = omega (arith, c .few, k .below) in l .first d (omega arith) (c .unsettled .at d j (record { killer = k; free = n })))) (T? (surelyDone (view s) (whoAt b) d));
+      clear = λ d k. ⊎-elim inr (λ n. inl (let j : d < 24 = omega (arith, c .few, k .below) in l .first d (omega arith) (c .unsettled .at d j (record { killer = k; threat = n })))) (T? (surelyDone (view s) (whoAt b) d));
     }
 
     pub sup-part : {r : Choice} (never : Bool) → never ≡ view s .never d a → r ≡ threatPair never a b d → a < 24 → d < 24 → Picks s (SafeJob P (view s) p (whoAt b) a) ⊥ r
-    sup-part true e z la h = pick-pair z (let u = c .unsettled .of d (l .here h) .1 in pair-with s b d h (u .free) (m .clear d (u .killer) (subst T e tt)))
+    sup-part true e z la h = pick-pair z (let u = c .unsettled .of d (l .here h) .1 in pair-with s b d h (u .threat) (m .clear d (u .killer) (subst T e tt)))
     sup-part false e z la h = pick-pair z (record { first = h; second = la; free = record { unsure = l .lacks h; possible = λ x. subst T (sym e) x } })
 
   module _ (m : StartMay P (view s) p (whoAt b)) {d : ℕ} (l : Lack R 0 d) where
@@ -114,12 +114,12 @@ module _ {P : Search} (s : List ℕ) {p : ℕ} (b : ℕ) {R : ℕ} (c : Pending 
       start,
       record {
         given = m .given;
-        clear = λ d k. ⊎-elim (λ x. x) (λ n. absurd (let j : d < 24 = omega (arith, c .few, k .below) in has-zero d (l .first d (omega arith) (c .unsettled .at d j (record { killer = k; free = n }))))) (T? (surelyDone (view s) (whoAt b) d));
+        clear = λ d k. ⊎-elim (λ x. x) (λ n. absurd (let j : d < 24 = omega (arith, c .few, k .below) in has-zero d (l .first d (omega arith) (c .unsettled .at d j (record { killer = k; threat = n }))))) (T? (surelyDone (view s) (whoAt b) d));
       },
     )
 
     pub start-threat : d < 24 → FreePair s b d
-    start-threat h = let u = c .unsettled .of d (l .here h) .1 in pair-with s b d h (u .free) (m .clear d (u .killer))
+    start-threat h = let u = c .unsettled .of d (l .here h) .1 in pair-with s b d h (u .threat) (m .clear d (u .killer))
 
 -- ── one condition ──
 

@@ -270,11 +270,11 @@ fn look(s: &State, b: usize, p: usize, t: &Tables) -> Choice
     ensures { λ r. ⌜ ((P : Search) → Lent (now (t .entry)) P → Picks (now (s .entry)) (SomeSafe P (now (s .entry)) p b) (NoMay P (now (s .entry)) p b) r) ⌝ }
 {
     let kills = lent::killers(t, p);
-    let dang = supports::dangers(s, b, kills);
+    let dang = supports::threats(s, b, kills, true);
     let x = Scene {
         by: b,
         cands: supports::cands(s, b, lent::adders(t, p), dang),
-        rest: supports::unsettled(s, b, kills),
+        rest: supports::threats(s, b, kills, false),
     };
     let d = best_job(s, x, t);
     let c = ranked(d, turned(d.rank));

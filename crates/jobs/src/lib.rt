@@ -1,10 +1,11 @@
 // A set of jobs as one word of 32 bits, job 0 the lowest.
 ghost use mathlib.Core.Path.{_≡_};
+ghost use mathlib.Core.Bool.{not, _&&_};
 ghost use Prim.Native.Nat.{_<_, _^_};
 ghost use lib.Bits.{bitOr};
 ghost use lib.Dec.{T};
 ghost use Rattle.facts.specs.Facts.{has};
-ghost use Rattle.facts.specs.Words.{Covers, Decides};
+ghost use Rattle.facts.specs.Words.{Word, Covers, Decides};
 ghost use Rattle.facts.specs.Least.{least};
 ghost use Rattle.facts.specs.Walks.{Walk};
 ghost use Rattle.jobs.specs.Jobs.{Noted, Lack, Single};
@@ -67,11 +68,18 @@ pub fn rest(w: u32) -> u32
     w & (w - 1)
 }
 
+// The jobs of w that are not in v.
+pub fn outside(w: u32, v: u32) -> u32
+    ensures { λ r. ⌜ Word (λ b. has w b && not (has v b)) r ⌝ }
+{
+    w & !v
+}
+
 // The first of w that is not in v, or 24.
 pub fn lack(w: u32, v: u32) -> usize
     ensures { λ r. ⌜ Lack w v r ⌝ }
 {
-    let d = lowest(w & !v);
+    let d = lowest(outside(w, v));
     if 24 <= d {
         return 24;
     }

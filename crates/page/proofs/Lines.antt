@@ -15,8 +15,9 @@ use Rattle.rules.specs.Pairs.{joined}
 use Rattle.rules.proofs.Sums.{sum-le, sum-of}
 use Rattle.rules.specs.Sums.{sum}
 use Rattle.bindings.proofs.Count.{sum-add, length-in-order}
-use Rattle.page.specs.Page.{textIf, digit, decimal, numberThen, jobLine, jobsAt}
-use Rattle.page.proofs.Laws.{text-no}
+use Rattle.lines.specs.Lines.{textIf, digit, decimal, numberThen, jobLine}
+use Rattle.page.specs.Page.{jobsAt}
+use Rattle.lines.proofs.Laws.{text-no}
 
 text-fits : (b : Bool) (text : List ℕ) → length (textIf b text) ≤ length text
 unfolding textIf

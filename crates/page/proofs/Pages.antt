@@ -25,8 +25,9 @@ use Rattle.planning.specs.Planning.{BoundsWithin}
 use Rattle.planning.proofs.Found.{bound-found}
 use Rattle.bytes_le.specs.Little.{atFront}
 use Rattle.jobfile.specs.Calls.{reading}
-use Rattle.page.specs.Page.{refusedLine, pairLine, pairLines, planText, said, Shows, Prints, roomCheck, Pages}
-use Rattle.page.specs.Lays.{Lays, LaysSome}
+use Rattle.lines.specs.Lines.{refusedLine, pairLine}
+use Rattle.lines.specs.Lays.{Lays, LaysSome}
+use Rattle.page.specs.Page.{pairLines, planText, said, Shows, Prints, roomCheck, Pages}
 
 -- ── pairs ──
 

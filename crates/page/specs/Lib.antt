@@ -1,3 +1,1 @@
 pub mod Page
-pub mod Lays
-pub mod Letters

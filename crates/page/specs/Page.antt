@@ -1,10 +1,10 @@
 -- The text that bench-plan prints, as a list of letters' codes.
 -- Assumes nothing.
 use mathlib.Core.Path.{_≡_}
-use mathlib.Core.Bool.{Bool, true, false, cond}
-use mathlib.Core.List.{List, [], _∷_, _++_}
-use Prim.Native.Nat.{ℕ, _+_, _*_, _/_, _%_, _≤_}
-use lib.Dec.{eqb, leb, ltb}
+use mathlib.Core.Bool.{cond}
+use mathlib.Core.List.{List, _++_}
+use Prim.Native.Nat.{ℕ, _+_, _*_, _/_, _≤_}
+use lib.Dec.{eqb, ltb}
 use lib.ListN.{length, getD, replicate}
 use Rattle.refusals.specs.Refusals.{Verdict, accepted, refuseIf}
 use Rattle.rules.specs.Table.{Problem}
@@ -17,40 +17,9 @@ use Rattle.tables.specs.Tables.{problem, answerOf, changed}
 use Rattle.planning.specs.Planning.{BoundsWithin}
 use Rattle.bytes_le.specs.Little.{atFront}
 use Rattle.jobfile.specs.Calls.{reading}
-use Rattle.page.specs.Letters.{letters}
+use Rattle.lines.specs.Lines.{textIf, refusedLine, leastLine, jobLine, pairLine}
 
--- ── numbers ──
-
--- the text where the test passes, else none
-unfoldable pub textIf : Bool → List ℕ → List ℕ
-textIf true text = text
-textIf false text = []
-
--- the digit of so many units, where the number has it
-abbrev pub digit : (n unit : ℕ) → List ℕ
-digit n u = textIf (leb u n) ((48 + n / u % 10) ∷ [])
-
--- a number below 100,000
-unfoldable pub decimal : ℕ → List ℕ
-decimal n = digit n 10000 ++ (digit n 1000 ++ (digit n 100 ++ (digit n 10 ++ ((48 + n % 10) ∷ []))))
-
--- a number and the letter behind it: a blank, or the end of the line
-abbrev pub numberThen : (n letter : ℕ) → List ℕ
-numberThen n c = decimal n ++ (c ∷ [])
-
--- ── lines ──
-
--- `refused`, number and place in one line
-abbrev pub refusedLine : (number place : ℕ) → List ℕ
-refusedLine n k = letters "refused " ++ (numberThen n 32 ++ numberThen k 10)
-
--- `least` and the least bound
-abbrev pub leastLine : ℕ → List ℕ
-leastLine b = letters "least " ++ numberThen b 10
-
--- start, finish and number of a job
-abbrev pub jobLine : (start end job : ℕ) → List ℕ
-jobLine t e j = numberThen t 32 ++ (numberThen e 32 ++ numberThen j 10)
+-- ── jobs and pairs ──
 
 -- the jobs that start at t, by number
 abbrev pub jobsAt : Problem → Plan → (t : ℕ) → List ℕ
@@ -59,10 +28,6 @@ jobsAt P s t = joined (λ j. textIf (eqb (s j) t) (jobLine (s j) (finish P s j) 
 -- the plan's jobs by start, then number: those that start at 0, at 1, and so on up to the bound
 abbrev pub jobLines : Problem → Plan → (bound : ℕ) → List ℕ
 jobLines P s b = joined (jobsAt P s) (b + 1)
-
--- `before` between the two jobs of a pair
-abbrev pub pairLine : (a b : ℕ) → List ℕ
-pairLine a b = decimal a ++ (letters " before " ++ numberThen b 10)
 
 -- a line for each of the first n pairs, of two bytes each
 abbrev pub pairLines : List ℕ → ℕ → List ℕ

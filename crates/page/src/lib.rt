@@ -1,108 +1,17 @@
 // The text that bench-plan prints for a job file, put into a lent buffer.
-ghost use mathlib.Core.Path.{_≡_};
-ghost use mathlib.Core.List.{[], _∷_};
 ghost use Prim.Native.Nat.{_+_, _*_, _≤_, _<_};
 ghost use lib.Dec.{eqb};
-ghost use lib.ListN.{length, getD};
-ghost use Rattle.rules.specs.Plans.{starts, finish};
-ghost use Rattle.rules.specs.Pairs.{pairBytes};
+ghost use lib.ListN.{length};
+ghost use Rattle.rules.specs.Plans.{starts};
 ghost use Rattle.rules.specs.Premises.{InOrder};
 ghost use Rattle.tables.specs.Tables.{jobAt, problem};
 ghost use Rattle.verdict.specs.Steps.{Given};
-ghost use Rattle.page.specs.Page.{digit, decimal, numberThen, refusedLine, leastLine, jobLine, textIf, jobsAt, jobLines, pairLine, pairLines, planText, Shows, Pages};
-ghost use Rattle.page.specs.Lays.{Lays, LaysSome};
+ghost use Rattle.lines.specs.Lines.{textIf, jobLine};
+ghost use Rattle.lines.specs.Lays.{Lays, LaysSome};
+ghost use Rattle.page.specs.Page.{jobsAt, jobLines, pairLines, planText, Shows, Pages};
 use tables::Answer;
 use tables::Ask;
 use tables::Loaded;
-
-// One letter at the place given; the next place comes back.
-fn put_letter(letter: u8, at: usize, out: &mut [u8]) -> usize
-    requires { ⌜ at + 1 ≤ length (now out) ⌝ }
-    ensures { λ r. ⌜ Lays 1 (letter ∷ []) at (now (out .entry)) (now (out .exit)) r ⌝ }
-{
-    out[at] = letter;
-    at + 1
-}
-
-// A word at the place given.
-fn put_word(word: &[u8], at: usize, out: &mut [u8]) -> usize
-    requires { ⌜ at + length (now word) ≤ length (now out) ⌝ }
-    ensures { λ r. ⌜ Lays (length (now (word .entry))) (now (word .entry)) at (now (out .entry)) (now (out .exit)) r ⌝ }
-{
-    bytes::copy(word, &mut out[at..]);
-    at + word.len()
-}
-
-// The digit of so many units, where the number has it.
-fn put_digit(n: u32, unit: u32, at: usize, out: &mut [u8]) -> usize
-    requires { ⌜ (0 < unit) × (at + 1 ≤ length (now out)) ⌝ }
-    ensures { λ r. ⌜ Lays 1 (digit n unit) at (now (out .entry)) (now (out .exit)) r ⌝ }
-{
-    if n < unit {
-        return at;
-    }
-    put_letter(48 + ((n / unit) % 10) as u8, at, out)
-}
-
-// A number below 100,000.
-fn put_number(n: u32, at: usize, out: &mut [u8]) -> usize
-    requires { ⌜ at + 5 ≤ length (now out) ⌝ }
-    ensures { λ r. ⌜ Lays 5 (decimal n) at (now (out .entry)) (now (out .exit)) r ⌝ }
-{
-    let tens = put_digit(n, 10000, at, out);
-    let thousands = put_digit(n, 1000, tens, out);
-    let hundreds = put_digit(n, 100, thousands, out);
-    let last = put_digit(n, 10, hundreds, out);
-    put_letter(48 + (n % 10) as u8, last, out)
-}
-
-// A number and the letter behind it.
-fn put_then(n: u32, letter: u8, at: usize, out: &mut [u8]) -> usize
-    requires { ⌜ at + 6 ≤ length (now out) ⌝ }
-    ensures { λ r. ⌜ Lays 6 (numberThen n letter) at (now (out .entry)) (now (out .exit)) r ⌝ }
-{
-    let next = put_number(n, at, out);
-    put_letter(letter, next, out)
-}
-
-// The line of a refusal.
-fn put_refused(number: u8, place: u16, out: &mut [u8]) -> usize
-    requires { ⌜ 20 ≤ length (now out) ⌝ }
-    ensures { λ r. ⌜ Lays 20 (refusedLine number place) 0 (now (out .entry)) (now (out .exit)) r ⌝ }
-{
-    let word = put_word(b"refused ", 0, out);
-    let next = put_then(number as u32, 32, word, out);
-    put_then(place as u32, 10, next, out)
-}
-
-// The line of the least bound.
-fn put_least(bound: u32, out: &mut [u8]) -> usize
-    requires { ⌜ 12 ≤ length (now out) ⌝ }
-    ensures { λ r. ⌜ Lays 12 (leastLine bound) 0 (now (out .entry)) (now (out .exit)) r ⌝ }
-{
-    let word = put_word(b"least ", 0, out);
-    put_then(bound, 10, word, out)
-}
-
-// The line of a job.
-fn put_job(start: u32, end: u32, job: u32, at: usize, out: &mut [u8]) -> usize
-    requires { ⌜ at + 18 ≤ length (now out) ⌝ }
-    ensures { λ r. ⌜ Lays 18 (jobLine start end job) at (now (out .entry)) (now (out .exit)) r ⌝ }
-{
-    let first = put_then(start, 32, at, out);
-    let second = put_then(end, 32, first, out);
-    put_then(job, 10, second, out)
-}
-
-// The line of a pair.
-fn put_pair(a: u8, b: u8, at: usize, out: &mut [u8]) -> usize
-    requires { ⌜ at + 19 ≤ length (now out) ⌝ }
-    ensures { λ r. ⌜ Lays 19 (pairLine a b) at (now (out .entry)) (now (out .exit)) r ⌝ }
-{
-    let first = put_number(a as u32, at, out);
-    let word = put_word(b" before ", first, out);
-    put_then(b as u32, 10, word, out)
-}
 
 // The line of job j, where it starts at t.
 fn put_start(l: Loaded, s: &[u16], t: usize, j: usize, at: usize, out: &mut [u8]) -> usize
@@ -115,7 +24,7 @@ fn put_start(l: Loaded, s: &[u16], t: usize, j: usize, at: usize, out: &mut [u8]
     }
     let a = l.jobs[j];
     let end = start + entries::wide(a.duration);
-    put_job(start, end, j as u32, at, out)
+    lines::put_job(start, end, j as u32, at, out)
 }
 
 // The jobs that start at t, by number.
@@ -151,7 +60,7 @@ fn put_pairs(pairs: &[u8], n: usize, at: usize, out: &mut [u8]) -> usize
 {
     let mut next = at;
     for i in 0..n {
-        next = put_pair(pairs[2 * i], pairs[2 * i + 1], next, out);
+        next = lines::put_pair(pairs[2 * i], pairs[2 * i + 1], next, out);
     }
     next
 }
@@ -164,7 +73,7 @@ fn put_plan(l: Loaded, q: Ask, s: &[u16], bound: u32, out: &mut [u8]) -> usize
     let mut space = [0u8; 552];
     let pairs: &mut [u8] = &mut space;
     let n = bindings::put_pairs(l, q, s, pairs);
-    let first = put_least(bound, out);
+    let first = lines::put_least(bound, out);
     let second = put_jobs(l, q, s, bound, first, out);
     put_pairs(pairs, n / 2, second, out)
 }
@@ -178,7 +87,7 @@ fn put_table(l: Loaded, q: Ask, out: &mut [u8]) -> usize
     let starts: &mut [u16] = &mut space;
     let a = planning::least_bound(l, q, starts);
     if a.number != 0 {
-        return put_refused(a.number, a.place, out);
+        return lines::put_refused(a.number, a.place, out);
     }
     put_plan(l, q, starts, a.value, out)
 }
@@ -193,7 +102,7 @@ pub fn page(file: &[u8], out: &mut [u8]) -> Answer
     let read = jobfile_read::read_file(file, 255);
     let said = read.answer;
     if said.number != 0 {
-        return tables::done(put_refused(said.number, said.place, out) as u32);
+        return tables::done(lines::put_refused(said.number, said.place, out) as u32);
     }
     tables::done(put_table(read.table, read.ask, out) as u32)
 }

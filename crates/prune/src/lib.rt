@@ -180,7 +180,7 @@ fn support(s: &mut State, b: usize, p: usize, t: &Tables)
     ensures { λ _. ⌜ (T (has (wantsOf (now (t .entry)) b) p) → Prunes (Lent (now (t .entry))) (now (s .entry)) (now (s .exit))) ⌝ }
 {
     let kills = lent::killers(t, p);
-    let dang = supports::dangers(s, b, kills);
+    let dang = supports::threats(s, b, kills, true);
     let w = supports::cands(s, b, lent::adders(t, p), dang);
     if supports::may_start(t, p, dang) {
         with_start(s, b, w, kills);

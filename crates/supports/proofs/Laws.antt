@@ -22,7 +22,7 @@ use Rattle.jobs.specs.Jobs.{Noted}
 use Rattle.lent.specs.Lent.{Cols, Kills}
 use Rattle.lent.specs.Consumers.{whoAt}
 use Rattle.lent.proofs.Consumers.{other-who, other-not}
-use Rattle.supports.specs.Supports.{Danger, Unsettled, Candidate, Dangerous, Loose, FairSupport, Sight}
+use Rattle.supports.specs.Supports.{OtherThreat, Threat, Danger, Candidate, FairSupport, Sight}
 
 -- ── a walk that sifts a word ──
 
@@ -64,13 +64,9 @@ module _ {P : Search} (s : List ℕ) {p : ℕ} (b : ℕ) {kills : ℕ} (k : Cols
   killer-in : (d : ℕ) → d < 24 → Killer P (view s) p (whoAt b) d → T (has (bitAnd kills (wordAt s ins)) d)
   killer-in d l x = both-of kills (wordAt s ins) d (k .at d l (x .below, x .kills)) (x .in?)
 
-  pub dangers-all : {v w : ℕ} → Sifted (Dangerous s b) (bitAnd kills (wordAt s ins)) v w → v ≡ 0 → Cols (Danger P s p b) w 24
-  dangers-all f e = sifted-all f e (λ d h x. (x .below, record { killer = killer-is d h (x .other); late = x .late }))
-      (λ d l x. (killer-in d l (x .killer), record { below = l; other = other-not b d l (x .killer .other); late = x .late }))
-
-  pub unsettled-all : {v w : ℕ} → Sifted (Loose s b) (bitAnd kills (wordAt s ins)) v w → v ≡ 0 → Cols (Unsettled P s p b) w 24
-  unsettled-all f e = sifted-all f e (λ d h x. (x .below, record { killer = killer-is d h (x .other); free = x .free }))
-      (λ d l x. (killer-in d l (x .killer), record { below = l; other = other-not b d l (x .killer .other); free = x .free }))
+  pub threats-all : {sure : Bool} {v w : ℕ} → Sifted (OtherThreat sure s b) (bitAnd kills (wordAt s ins)) v w → v ≡ 0 → Cols (Threat sure P s p b) w 24
+  threats-all f e = sifted-all f e (λ d h x. (x .below, record { killer = killer-is d h (x .other); threat = x .threat }))
+      (λ d l x. (killer-in d l (x .killer), record { below = l; other = other-not b d l (x .killer .other); threat = x .threat }))
 
 -- ── candidates ──
 
@@ -78,7 +74,7 @@ module _ {P : Search} (s : List ℕ) {p : ℕ} (b : ℕ) {kills : ℕ} (k : Cols
 clear-of : {P : Search} {s : List ℕ} {p b A G : ℕ} → Sight P s p b A G → (a : ℕ) → bitAnd (wordAt s (nevers a)) G ≡ 0
     → (d : ℕ) → Killer P (view s) p (whoAt b) d → T (view s .never d a) → T (surelyLate (view s) (whoAt b) d) → ⊥
 clear-of {s = s} {G = G} c a e d k n l =
-    let g : T (has G d) = c .dangers .at d (omega (arith, c .few, k .below)) (record { killer = k; late = l }) in
+    let g : T (has G d) = c .dangers .at d (omega (arith, c .few, k .below)) (record { killer = k; threat = l }) in
     has-zero d (subst (λ (x : ℕ). T (has x d)) e (both-of (wordAt s (nevers a)) G d n g))
 
 clear-in : {P : Search} {s : List ℕ} {p b A G : ℕ} → Sight P s p b A G → (a : ℕ) → Candidate P s p b a → bitAnd (wordAt s (nevers a)) G ≡ 0
@@ -90,7 +86,7 @@ clear-in {s = s} {G = G} c a m = go (ℕ-discrete (bitAnd (wordAt s (nevers a)) 
         let i = some-fact (bitAnd (wordAt s (nevers a)) G) n in
         let k = both-at (wordAt s (nevers a)) G (i .0) (i .1) in
         let g = c .dangers .of (i .0) (k .1) .1 in
-        absurd (m .clear (i .0) (g .killer) (k .0) (g .late))
+        absurd (m .clear (i .0) (g .killer) (k .0) (g .threat))
 
 pub cands-all : {P : Search} (s : List ℕ) {p b A G v w : ℕ} → Sight P s p b A G → Sifted (FairSupport s b G) A v w → v ≡ 0 → Cols (Candidate P s p b) w 24
 cands-all s {b = b} {A = A} c f e = sifted-all f e
@@ -100,10 +96,10 @@ cands-all s {b = b} {A = A} c f e = sifted-all f e
 module _ {P : Search} (s : List ℕ) {p : ℕ} (b : ℕ) {G : ℕ} (k : Cols (Danger P s p b) G 24) where
   -- where there is a danger, Start is no candidate
   pub danger-bars : (G ≡ 0 → ⊥) → StartMay P (view s) p (whoAt b) → ⊥
-  danger-bars n m = let i = some-fact G n in let g = k .of (i .0) (i .1) .1 in m .clear (i .0) (g .killer) (g .late)
+  danger-bars n m = let i = some-fact G n in let g = k .of (i .0) (i .1) .1 in m .clear (i .0) (g .killer) (g .threat)
 
   -- where there is none, it is one if the fact is open
   pub start-fair : P .problem .count ≤ 24 → G ≡ 0 → T (has (P .problem .opening) p) → StartMay P (view s) p (whoAt b)
-  start-fair few e o = record { given = o; clear = λ d x l. has-zero d (subst (λ (i : ℕ). T (has i d)) e (k .at d (omega (arith, x .below)) (record { killer = x; late = l }))) }
+  start-fair few e o = record { given = o; clear = λ d x l. has-zero d (subst (λ (i : ℕ). T (has i d)) e (k .at d (omega (arith, x .below)) (record { killer = x; threat = l }))) }
 
 -- ── the first that is lacking ──

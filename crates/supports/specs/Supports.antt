@@ -2,6 +2,7 @@
 -- Assumes nothing.
 use mathlib.Core.Path.{_≡_}
 use mathlib.Core.Logic.{_≢_}
+use mathlib.Core.Bool.{Bool, true, false}
 use mathlib.Core.List.{List}
 use Prim.Native.Nat.{ℕ, _≤_, _<_}
 use lib.Bits.{bitAnd}
@@ -14,17 +15,16 @@ use Rattle.lent.specs.Consumers.{whoAt}
 
 -- ── what is asked of one job ──
 
--- another job, before which the consumer b is surely not over
-pub record Dangerous (s : List ℕ) (b d : ℕ) : Type 0 where
-  pub below : d < 24
-  pub other : d ≢ b
-  pub late : T (surelyLate (view s) (whoAt b) d)
+-- with `sure` the consumer b is surely not over before job d, else it is not surely over
+abbrev pub Threatens : (sure : Bool) → List ℕ → (b d : ℕ) → Type 0
+Threatens true s b d = T (surelyLate (view s) (whoAt b) d)
+Threatens false s b d = T (surelyDone (view s) (whoAt b) d) → ⊥
 
--- another job, before which the consumer b is not surely over
-pub record Loose (s : List ℕ) (b d : ℕ) : Type 0 where
+-- another job before which it is so
+pub record OtherThreat (sure : Bool) (s : List ℕ) (b d : ℕ) : Type 0 where
   pub below : d < 24
   pub other : d ≢ b
-  pub free : T (surelyDone (view s) (whoAt b) d) → ⊥
+  pub threat : Threatens sure s b d
 
 -- another job that is not out, may be over before the consumer b, and that no danger surely follows
 pub record FairSupport (s : List ℕ) (b dang a : ℕ) : Type 0 where
@@ -36,15 +36,18 @@ pub record FairSupport (s : List ℕ) (b dang a : ℕ) : Type 0 where
 
 -- ── words of jobs, for the fact p of the consumer b ──
 
--- d deletes the fact and surely comes before the consumer is over
-pub record Danger (P : Search) (s : List ℕ) (p b d : ℕ) : Type 0 where
+-- d deletes the fact, and before it the consumer is surely not over, or not surely over
+pub record Threat (sure : Bool) (P : Search) (s : List ℕ) (p b d : ℕ) : Type 0 where
   pub killer : Killer P (view s) p (whoAt b) d
-  pub late : T (surelyLate (view s) (whoAt b) d)
+  pub threat : Threatens sure s b d
+
+-- d deletes the fact and surely comes before the consumer is over
+abbrev pub Danger : Search → List ℕ → (p b d : ℕ) → Type 0
+Danger = Threat true
 
 -- d deletes the fact and may come before the consumer is over
-pub record Unsettled (P : Search) (s : List ℕ) (p b d : ℕ) : Type 0 where
-  pub killer : Killer P (view s) p (whoAt b) d
-  pub free : T (surelyDone (view s) (whoAt b) d) → ⊥
+abbrev pub Unsettled : Search → List ℕ → (p b d : ℕ) → Type 0
+Unsettled = Threat false
 
 -- job a may be the support
 abbrev pub Candidate : Search → List ℕ → (p b a : ℕ) → Type 0

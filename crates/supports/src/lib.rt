@@ -7,7 +7,7 @@ ghost use Rattle.states.specs.State.{Search, surelyLate, surelyDone, useless, s
 ghost use Rattle.cells.specs.View.{view};
 ghost use Rattle.lent.specs.Lent.{Cols, Kills, Lent};
 ghost use Rattle.lent.specs.Consumers.{whoAt};
-ghost use Rattle.supports.specs.Supports.{Danger, Unsettled, Candidate, Dangerous, Loose, FairSupport, Sight};
+ghost use Rattle.supports.specs.Supports.{OtherThreat, Threat, Danger, Candidate, FairSupport, Sight};
 use cells::State;
 use lent::Tables;
 
@@ -66,10 +66,10 @@ pub fn serves_for(s: &State, a: usize, b: usize) -> bool
     cells::sure(s, a, b)
 }
 
-// Another job d, before which the consumer is surely not over.
-fn danger_at(s: &State, b: usize, d: usize) -> bool
+// Another job d, before which the consumer is surely not over, or not surely over.
+fn threat_at(s: &State, b: usize, d: usize, sure: bool) -> bool
     requires { ⌜ b ≤ 24 ⌝ }
-    ensures { λ r. ⌜ Decides r (Dangerous (now (s .entry)) b d) ⌝ }
+    ensures { λ r. ⌜ Decides r (OtherThreat sure (now (s .entry)) b d) ⌝ }
 {
     if 24 <= d {
         return false;
@@ -77,48 +77,22 @@ fn danger_at(s: &State, b: usize, d: usize) -> bool
     if d == b {
         return false;
     }
-    late_for(s, b, d)
-}
-
-// Another job d, before which the consumer is not surely over.
-fn loose_at(s: &State, b: usize, d: usize) -> bool
-    requires { ⌜ b ≤ 24 ⌝ }
-    ensures { λ r. ⌜ Decides r (Loose (now (s .entry)) b d) ⌝ }
-{
-    if 24 <= d {
-        return false;
-    }
-    if d == b {
-        return false;
+    if sure {
+        return late_for(s, b, d);
     }
     !done_for(s, b, d)
 }
 
-// The jobs inside that delete the fact whose deleters are `kills`, and before which the consumer is surely not over.
-pub fn dangers(s: &State, b: usize, kills: u32) -> u32
+// The jobs inside that delete the fact whose deleters are `kills`, and before which the consumer is surely not over, or not surely over.
+pub fn threats(s: &State, b: usize, kills: u32, sure: bool) -> u32
     requires { ⌜ b ≤ 24 ⌝ }
-    ensures { λ r. ⌜ ((P : Search) (p : ℕ) → Cols (Kills (P .problem) p) kills 24 → Cols (Danger P (now (s .entry)) p b) r 24) ⌝ }
+    ensures { λ r. ⌜ ((P : Search) (p : ℕ) → Cols (Kills (P .problem) p) kills 24 → Cols (Threat sure P (now (s .entry)) p b) r 24) ⌝ }
 {
     let mut v = kills & cells::insides(s);
     let mut w: u32 = 0;
     while v != 0 {
         let d = jobs::lowest(v);
-        w = jobs::with_if(w, d, danger_at(s, b, d));
-        v = jobs::rest(v);
-    }
-    w
-}
-
-// The jobs inside that delete it, and before which the consumer is not surely over.
-pub fn unsettled(s: &State, b: usize, kills: u32) -> u32
-    requires { ⌜ b ≤ 24 ⌝ }
-    ensures { λ r. ⌜ ((P : Search) (p : ℕ) → Cols (Kills (P .problem) p) kills 24 → Cols (Unsettled P (now (s .entry)) p b) r 24) ⌝ }
-{
-    let mut v = kills & cells::insides(s);
-    let mut w: u32 = 0;
-    while v != 0 {
-        let d = jobs::lowest(v);
-        w = jobs::with_if(w, d, loose_at(s, b, d));
+        w = jobs::with_if(w, d, threat_at(s, b, d, sure));
         v = jobs::rest(v);
     }
     w

@@ -1,5 +1,5 @@
 use native.Mathlib.Omega.{arith}
-use Rattle.page.proofs.Laws.{lays-fit}
+use Rattle.lines.proofs.Laws.{lays-fit}
 use Rattle.jobfile.specs.declared.Read.{Read}
 use mathlib.Core.Path.{sym, ap, _∙_}
 use Rattle.page.proofs.Pages.{pages-short, pages-no, pages-table}

@@ -1,8 +1,9 @@
 use borrow.Author.Needs.{needs}
 use native.Mathlib.Omega.{arith}
 use Rattle.page.proofs.Lines.{jobs-fit}
-use Rattle.page.proofs.Laws.{lays-none, lays-fit, lays-next}
-use Rattle.page.specs.Lays.{Lays}
+use Rattle.lines.proofs.Laws.{lays-none, lays-fit}
+use Rattle.page.proofs.Laws.{lays-next}
+use Rattle.lines.specs.Lays.{Lays}
 use Rattle.page.specs.Page.{jobsAt}
 use Rattle.tables.specs.Tables.{problem}
 use Rattle.rules.specs.Pairs.{joined}

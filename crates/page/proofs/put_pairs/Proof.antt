@@ -1,9 +1,10 @@
 use mathlib.Core.Path.{_≡_, refl, _∙_}
-use Rattle.page.specs.Page.{pairLine}
+use Rattle.lines.specs.Lines.{pairLine}
 use borrow.Author.Needs.{needs}
 use native.Mathlib.Omega.{arith}
-use Rattle.page.proofs.Laws.{lays-none, lays-fit, lays-line}
-use Rattle.page.specs.Lays.{Lays}
+use Rattle.lines.proofs.Laws.{lays-none, lays-fit}
+use Rattle.page.proofs.Laws.{lays-line}
+use Rattle.lines.specs.Lays.{Lays}
 use Rattle.rules.specs.Pairs.{joined}
 use lib.ListN.{length, getD}
 use Prim.Native.Nat.{_+_, _-_, _*_, _≤_}

@@ -1,5 +1,5 @@
 use Rattle.page.proofs.Pages.{plan-pairs}
-use Rattle.page.proofs.Laws.{lays-then, lays-fit}
+use Rattle.lines.proofs.Laws.{lays-then, lays-fit}
 use Rattle.page.specs.Page.{planText}
 use mathlib.Core.List.{[]}
 use mathlib.Core.Path.{refl}

@@ -1,12 +1,12 @@
 use Rattle.tables.specs.Tables.{jobAt}
-use Rattle.page.specs.Page.{jobLine}
+use Rattle.lines.specs.Lines.{jobLine}
 use Prim.Native.Nat.{_+_}
 use mathlib.Core.Path.{sym, _∙_}
 use borrow.Author.Tests.{eq-eqb, ne-eqb}
 use lib.ListN.{getD}
 use lib.Dec.{eqb}
 use native.Mathlib.Omega.{arith}
-use Rattle.page.proofs.Laws.{lays-none, lays-fit, text-yes, text-no}
+use Rattle.lines.proofs.Laws.{lays-none, lays-fit, text-yes, text-no}
 use borrow.Author.Needs.{needs}
 use Rattle.page.proofs.put_start.Statement.{statement}
 use Rattle.page.proofs.put_start.Tie as tie

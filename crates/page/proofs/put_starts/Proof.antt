@@ -1,10 +1,11 @@
 use mathlib.Core.Path.{_≡_, refl, _∙_}
 use Rattle.tables.specs.Tables.{jobAt}
-use Rattle.page.specs.Page.{textIf, jobLine}
+use Rattle.lines.specs.Lines.{textIf, jobLine}
 use borrow.Author.Needs.{needs}
 use native.Mathlib.Omega.{arith}
-use Rattle.page.proofs.Laws.{lays-none, lays-fit, lays-line}
-use Rattle.page.specs.Lays.{Lays}
+use Rattle.lines.proofs.Laws.{lays-none, lays-fit}
+use Rattle.page.proofs.Laws.{lays-line}
+use Rattle.lines.specs.Lays.{Lays}
 use Rattle.rules.specs.Pairs.{joined}
 use Rattle.rules.specs.Plans.{starts}
 use lib.ListN.{length, getD}

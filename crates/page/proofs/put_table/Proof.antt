@@ -1,6 +1,6 @@
 use native.Mathlib.Omega.{arith}
 use Rattle.page.proofs.Pages.{ready, shows-no, shows-plan}
-use Rattle.page.proofs.Laws.{lays-fit}
+use Rattle.lines.proofs.Laws.{lays-fit}
 use borrow.Author.Needs.{needs}
 use Rattle.page.proofs.put_table.Statement.{statement}
 use Rattle.page.proofs.put_table.Tie as tie

@@ -2,7 +2,6 @@ use borrow.Author.Needs.{needs}
 use native.Mathlib.Omega.{arith}
 use Prim.Native.Nat.{_+_, _-_, _*_, _≤_}
 use mathlib.Core.Path.{_≡_, refl}
-use lib.ListN.{getD}
 use Rattle.tables.specs.Tables.{jobAt}
 use Rattle.rules.specs.Sums.{sum}
 use Rattle.planning.proofs.Laws.{sum-next}

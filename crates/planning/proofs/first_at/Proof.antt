@@ -1,4 +1,5 @@
-use Rattle.planning.proofs.Laws.{some-lent, begins-at, first-at}
+use Rattle.bounds.proofs.Laws.{some-lent}
+use Rattle.planning.proofs.Laws.{begins-at, first-at}
 use borrow.Author.Needs.{needs}
 use Rattle.planning.proofs.first_at.Statement.{statement}
 use Rattle.planning.proofs.first_at.Tie as tie

@@ -1,4 +1,5 @@
-use Rattle.planning.proofs.Laws.{plan-same, plan-hopeless, plan-none, plan-first, some-to}
+use Rattle.bounds.proofs.Laws.{some-to}
+use Rattle.planning.proofs.Laws.{plan-same, plan-hopeless, plan-none, plan-first}
 use native.Mathlib.Omega.{arith}
 use borrow.Author.Tests.{not-true, not-false}
 use borrow.Author.Needs.{needs}
@@ -6,7 +7,7 @@ use Rattle.planning.proofs.first_within.Statement.{statement}
 use Rattle.planning.proofs.first_within.Tie as tie
 
 any-at-requires : tie.Need-any-at-requires
-any-at-requires c κs = let d = c .before .before .before .before .before .set-out .ensures in record { served = d .searched; listed = d .listed; short = c .before .before .before .before .before .before .pre .short }
+any-at-requires c κs = let d = c .before .before .before .before .before .set-out .ensures in record { served = d .searched; listed = d .listed; short = omega (arith, c .before .before .before .before .before .before .pre .short) }
 
 returns-2 : tie.Need-returns-2
 returns-2 c = let d = c .before .before .before .before .before .before .before .set-out .ensures in plan-same d (plan-none (c .before .any-at .ensures .none (not-true _ (c .if2 .taken)) (d .searched) (d .listed) _ (omega arith)))
