@@ -21,9 +21,9 @@
 extern "C" {
 #endif
 
-/* The version that this header describes, 10,000 times the first number, 100 times the second, and the third: 1.0.0.
+/* The version that this header describes, 10,000 times the first number, 100 times the second, and the third: 1.1.0.
  * nuzzlefleece_version() returns that of the library linked; where the two differ, header and library are not of one build. */
-#define NUZZLEFLEECE_VERSION 10000
+#define NUZZLEFLEECE_VERSION 10100
 
 /* Sizes and limits. A fact is a number below the atom count; a word of facts has fact 0 in its lowest bit. */
 enum {
@@ -31,6 +31,7 @@ enum {
     NUZZLEFLEECE_MOST_JOBS = 24,
     NUZZLEFLEECE_MOST_ATOMS = 64,
     NUZZLEFLEECE_MOST_DURATION = 960,   /* quarter hours; the least is 1 */
+    NUZZLEFLEECE_MOST_RELEASE = 2880,   /* quarter hours; the least is 0 */
     NUZZLEFLEECE_MOST_BOUND = 2880,     /* quarter hours */
     NUZZLEFLEECE_MOST_PAIRS = 600,      /* asked of settling */
     NUZZLEFLEECE_MOST_MARKS = 16,
@@ -45,12 +46,13 @@ enum {
     NUZZLEFLEECE_PAGE_BYTES = 8192      /* lent for the text of a page */
 };
 
-/* Refusals, checked in the order of their numbers. All that take or write a job table check 3 to 8, and 9 where there is a bound.
+/* Refusals, checked in the order of their numbers, but 20 between 6 and 7, and 21 between 11 and 12.
+ * All that take or write a job table check 3 to 8 and 20, and 9 where there is a bound.
  * The place is 0 where the comment names none. A job is named by its number in the table, a fact by its own, a pair by its number in the list asked. */
 enum {
     NUZZLEFLEECE_DONE = 0,
     NUZZLEFLEECE_FILE_TOO_LONG = 1,      /* the file, or the file after appending, has over 65,536 bytes */
-    NUZZLEFLEECE_FILE_DAMAGED = 2,       /* under 24 bytes, distance out of range, or one of a record's last six bytes is not zero */
+    NUZZLEFLEECE_FILE_DAMAGED = 2,       /* under 24 bytes, distance out of range, or one of a record's last four bytes is not zero */
     NUZZLEFLEECE_LENT_TOO_SHORT = 3,     /* lent memory is too short for the count given */
     NUZZLEFLEECE_ATOMS_WRONG = 4,        /* the atom count is not 1 to 64 */
     NUZZLEFLEECE_TOO_MANY_JOBS = 5,      /* more than 24 */
@@ -64,9 +66,11 @@ enum {
     NUZZLEFLEECE_CONDITION_MISSING = 13, /* offered plan: at a start; place: lowest job */
     NUZZLEFLEECE_GOAL_MISSING = 14,      /* offered plan; place: lowest fact */
     NUZZLEFLEECE_PAIRS_WRONG = 15,       /* settling; place: 601 the set names no such job, 600 over 600 pairs, else the first pair with a job outside the set */
-    NUZZLEFLEECE_NO_STARTS = 16,         /* settling: no starts keep the pairs within the bound */
+    NUZZLEFLEECE_NO_STARTS = 16,         /* settling: no starts keep the pairs and the releases within the bound */
     NUZZLEFLEECE_READING_WRONG = 17,     /* not finite or not -100 to 100; place: channel, lower first */
-    NUZZLEFLEECE_MARK_WRONG = 18         /* place: 16 for more than 16 marks, else the lowest mark out of range */
+    NUZZLEFLEECE_MARK_WRONG = 18,        /* place: 16 for more than 16 marks, else the lowest mark out of range */
+    NUZZLEFLEECE_RELEASE_WRONG = 20,     /* over 2,880; checked after 6 and before 7; place: lowest job */
+    NUZZLEFLEECE_BEFORE_RELEASE = 21     /* offered plan: a job starts before its release; checked after 11 and before 12; place: lowest job */
 };
 
 /* What a refusal says, in words; the place is said by the comments above. */
@@ -74,7 +78,7 @@ static inline const char *nuzzlefleece_words(unsigned number) {
     static const char *const words[] = {
         "done",
         "file, or file after appending, over 65,536 bytes",
-        "file under 24 bytes, distance out of range, or one of a record's six last bytes not zero",
+        "file under 24 bytes, distance out of range, or one of a record's four last bytes not zero",
         "a lent table or buffer is too short",
         "atom count not 1 to 64",
         "more than 24 jobs",
@@ -91,18 +95,22 @@ static inline const char *nuzzlefleece_words(unsigned number) {
         "settling: no such starts",
         "reading not finite or out of range",
         "more than 16 marks, or a mark out of range",
+        NULL, /* no refusal has the number 19 */
+        "a release over 2,880",
+        "offered plan: a job starts before its release",
     };
-    return number < sizeof words / sizeof words[0] ? words[number] : "no such refusal";
+    return number < sizeof words / sizeof words[0] && words[number] != NULL ? words[number] : "no such refusal";
 }
 
-/* A job: three words of facts and the quarter hours it takes. The bytes behind are reserved, to be zero: a later version will read them.
- * Initialise the fields by name, and they are. */
+/* A job: three words of facts, the quarter hours it takes and its release. The bytes behind are reserved, to be zero: a later version
+ * will read them. Initialise the fields by name, and they are; a release that is not named is 0. */
 typedef struct nuzzlefleece_action {
     uint64_t conditions;
     uint64_t additions;
     uint64_t deletions;
     uint16_t duration;
-    uint8_t reserved[6];
+    uint16_t release; /* in quarter hours, 0 to 2,880: the job does not start before */
+    uint8_t reserved[4];
 } nuzzlefleece_action;
 
 /* The numbers of a call; set and pairs are looked at by settling alone, the bound by all but the estimates. */
@@ -149,7 +157,8 @@ typedef struct nuzzlefleece_opening {
 } nuzzlefleece_opening;
 
 /* The library has these layouts; another compiler's would stop here. */
-typedef char nuzzlefleece_layouts[sizeof(nuzzlefleece_action) == 32 && sizeof(nuzzlefleece_ask) == 56 && sizeof(nuzzlefleece_answer) == 8
+typedef char nuzzlefleece_layouts[sizeof(nuzzlefleece_action) == 32 && offsetof(nuzzlefleece_action, release) == 26
+    && sizeof(nuzzlefleece_ask) == 56 && sizeof(nuzzlefleece_answer) == 8
     && sizeof(nuzzlefleece_save) == 64 && sizeof(nuzzlefleece_read_answer) == 64 && sizeof(nuzzlefleece_opening) == 16 ? 1 : -1];
 
 /* The version of the library. */
@@ -157,21 +166,22 @@ uint32_t nuzzlefleece_version(void);
 
 /*
  * Checks an offered plan, one start a job, NUZZLEFLEECE_OUT for a job that is out.
- * Done exactly when the plan is valid. Refusals 3 to 9, then 11 to 14.
+ * Done exactly when the plan is valid; a valid plan starts no job before its release. Refusals 3 to 9 and 20, then 11 to 14 and 21.
  */
 nuzzlefleece_answer nuzzlefleece_check_plan(const nuzzlefleece_action *records, size_t lent, nuzzlefleece_ask ask,
     const uint16_t *starts, size_t starts_lent);
 
 /*
- * Plans within the bound: fills one start a job with the first valid plan in the stated order (job 0 first, then job 1;
- * out comes before every start, an earlier start before a later one). Refusals 3 to 9; 10 exactly when no plan is valid.
+ * Plans within the bound, no job before its release: fills one start a job with the first valid plan in the stated order (job 0
+ * first, then job 1; out comes before every start, an earlier start before a later one). Refusals 3 to 9 and 20; 10 exactly when no
+ * plan is valid.
  */
 nuzzlefleece_answer nuzzlefleece_plan_within(const nuzzlefleece_action *records, size_t lent, nuzzlefleece_ask ask,
     uint16_t *starts, size_t starts_lent);
 
 /*
- * The value is the smallest number from 0 to the bound that has a valid plan; the starts are those of the first plan
- * at that number. Refusals 3 to 9; 10 exactly when no plan is valid within the bound. On refusal the value is 65,535.
+ * The value is the smallest number from 0 to the bound that has a valid plan, no job before its release; the starts are those of the
+ * first plan at that number. Refusals 3 to 9 and 20; 10 exactly when no plan is valid within the bound. On refusal the value is 65,535.
  */
 nuzzlefleece_answer nuzzlefleece_least_bound(const nuzzlefleece_action *records, size_t lent, nuzzlefleece_ask ask,
     uint16_t *starts, size_t starts_lent);
@@ -179,7 +189,7 @@ nuzzlefleece_answer nuzzlefleece_least_bound(const nuzzlefleece_action *records,
 /*
  * Fills 64 bytes a job and 64 for End behind the last job, by fact: the job that supports this condition,
  * NUZZLEFLEECE_SUPPORTED_BY_START, or NUZZLEFLEECE_NO_CONDITION where it is no condition or the job is out. If several fit,
- * Start is named, else the lowest job. Refusals 3 to 9, then 11 to 14: only a valid plan has supports.
+ * Start is named, else the lowest job. Refusals 3 to 9 and 20, then 11 to 14 and 21: only a valid plan has supports.
  */
 nuzzlefleece_answer nuzzlefleece_supports(const nuzzlefleece_action *records, size_t lent, nuzzlefleece_ask ask,
     const uint16_t *starts, size_t starts_lent, uint8_t *supports, size_t supports_lent);
@@ -188,35 +198,37 @@ nuzzlefleece_answer nuzzlefleece_supports(const nuzzlefleece_action *records, si
  * Fills two bytes a pair, first job then second, in order of first then second, each pair once: jobs that interfere, or of
  * which the first is the named support of a condition of the second. The value is the count, at most 276; 552 bytes are
  * to be lent. If the plan's jobs start and finish at other moments and each first job still finishes before its second starts,
- * every job finds its conditions and the goals hold at the end. Refusals 3 to 9, then 11 to 14.
+ * every job finds its conditions and the goals hold at the end; releases play no part in that.
+ * Refusals 3 to 9 and 20, then 11 to 14 and 21.
  */
 nuzzlefleece_answer nuzzlefleece_binding_pairs(const nuzzlefleece_action *records, size_t lent, nuzzlefleece_ask ask,
     const uint16_t *starts, size_t starts_lent, uint8_t *pairs, size_t pairs_lent);
 
 /*
- * Fills one earliest estimate a job, NUZZLEFLEECE_OUT where it is never reachable. No valid plan starts a job before its
- * estimate. Refusals 3 to 8.
+ * Fills one earliest estimate a job, the greater of its release and what its conditions cost, NUZZLEFLEECE_OUT where it is never
+ * reachable. No valid plan starts a job before its estimate. Refusals 3 to 8 and 20.
  */
 nuzzlefleece_answer nuzzlefleece_earliest(const nuzzlefleece_action *records, size_t lent, nuzzlefleece_ask ask,
     uint16_t *estimates, size_t estimates_lent);
 
 /*
  * Settles the jobs of ask.set: fills the least starts with which the first job of each of the ask.pairs pairs finishes no later
- * than the second starts and all end by the bound; jobs outside the set get NUZZLEFLEECE_OUT. Two bytes a pair, at most 600 pairs.
- * Conditions are not looked at. Refusals 3 to 9, 15 and 16.
+ * than the second starts, no job starts before its release and all end by the bound; jobs outside the set get NUZZLEFLEECE_OUT. Two
+ * bytes a pair, at most 600 pairs. Conditions are not looked at. Refusals 3 to 9 and 20, then 15 and 16.
  */
 nuzzlefleece_answer nuzzlefleece_settle(const nuzzlefleece_action *records, size_t lent, nuzzlefleece_ask ask,
     const uint8_t *pairs, size_t pairs_lent, uint16_t *starts, size_t starts_lent);
 
 /*
- * Reads the last save of a job file: fills one record a job and gives the file's numbers. Refusals 1 to 9.
+ * Reads the last save of a job file: fills one record a job and gives the file's numbers. A file written before there were releases
+ * has zeros in their place. Refusals 1 to 9 and 20.
  * 255 records lent take the count of any file, so that 3 cannot come; a count over 24 is then 5.
  */
 nuzzlefleece_read_answer nuzzlefleece_read_file(const uint8_t *file, size_t file_length, nuzzlefleece_action *records, size_t lent);
 
 /*
  * Appends a save of 32 bytes a job and 24 more behind the bytes of the buffer that are in use; the value is the new length in use.
- * Reading what was written gives back what was saved. Refusals 1 and 3 to 9.
+ * Reading what was written gives back what was saved, the releases too. Refusals 1, 3 to 9 and 20.
  */
 nuzzlefleece_answer nuzzlefleece_write_file(const nuzzlefleece_action *records, size_t lent, nuzzlefleece_save save,
     uint8_t *buffer, size_t buffer_length);

@@ -12,11 +12,14 @@ The text, a line a thing; what stands behind # is a comment, and blank lines mea
     job unpack 4: packed -> unpacked - packed
                                     name, duration: conditions -> additions - deletions; each list may be empty, and
                                     without deletions the lone - may be left out. Jobs are numbered in order from 0
+    job warm 8 release 6: unpacked -> warm
+                                    the same with a release, in quarter hours; where none is given it is 0
     atoms 5                         the atom count, where it is not the number of facts named
 
 A name begins with a letter and goes on with letters, digits, '-', '_' and '.'. Facts are named before they are used.
 The text may hold anything that a file can hold: where the planner will refuse it, a warning on standard error says
-so, and the file is made all the same. `show` names facts f0, f1 .. and jobs j0, j1 .. and shows the last save of a file.
+so, and the file is made all the same. `show` names facts f0, f1 .. and jobs j0, j1 .. and shows the last save of a
+file; a release is shown where it is not 0.
 Status 1 with a line on standard error where the text or the file is wrong, 2 where it cannot be read or the result written.
 """
 import os
@@ -26,7 +29,7 @@ import struct
 import sys
 
 NAME = re.compile(r'[A-Za-z][A-Za-z0-9_.-]*')
-RECORD, TRAILER = 32, 24
+RECORD, TRAILER, FIELDS = 32, 24, '<QQQHH'
 MOST_FACTS, MOST_JOBS, MOST_SHORT, LONGEST_FILE, LONGEST_TEXT = 64, 255, 65535, 65536, 1 << 24
 REFUSALS = os.path.join(os.path.dirname(os.path.realpath(__file__)), 'refusals')
 
@@ -110,16 +113,14 @@ class Text:
 
     def read_job(self, words):
         before, colon, lists = ' '.join(words).partition(':')
-        if not colon or len(before.split()) != 2:
-            raise Wrong('a job is: job NAME DURATION: CONDITIONS -> ADDITIONS - DELETIONS')
-        name, duration = before.split()
+        name, duration, release = split_times(before.split() if colon else [])
         demand_name(name)
         if name in self.names:
             raise Wrong(f'job {short(name)} is named twice')
         if len(self.jobs) == MOST_JOBS:
             raise Wrong(f'job {short(name)} is one more than {MOST_JOBS}')
-        duration = number_in(duration, MOST_SHORT, 'a duration')
-        self.jobs.append((*map(self.word, split_lists(lists.split())), duration))
+        times = number_in(duration, MOST_SHORT, 'a duration'), number_in(release, MOST_SHORT, 'a release')
+        self.jobs.append((*map(self.word, split_lists(lists.split())), *times))
         self.names.add(name)
 
     def file(self):
@@ -127,7 +128,7 @@ class Text:
         if self.bound is None:
             raise Wrong('there is no bound')
         atoms = len(self.facts) if self.atoms is None else self.atoms
-        records = b''.join(struct.pack('<QQQH6x', *job) for job in self.jobs)
+        records = b''.join(struct.pack(FIELDS + '4x', *job) for job in self.jobs)
         return records + struct.pack('<QQHBBI', self.opening, self.goals, self.bound, len(self.jobs), atoms, len(records))
 
 
@@ -137,7 +138,8 @@ def refusal_of(file):
     over = [number for number, job in enumerate(jobs) if (job[0] | job[1] | job[2]) >> atoms]
     over += [24] if (opening | goals) >> atoms else []
     checks = [(4, [0] if not 1 <= atoms <= MOST_FACTS else []), (5, [0] if len(jobs) > 24 else []),
-              (6, [number for number, job in enumerate(jobs) if not 1 <= job[3] <= 960]), (7, over),
+              (6, [number for number, job in enumerate(jobs) if not 1 <= job[3] <= 960]),
+              (20, [number for number, job in enumerate(jobs) if job[4] > 2880]), (7, over),
               (8, [number for number, job in enumerate(jobs) if job[1] & job[2]]), (9, [0] if bound > 2880 else [])]
     return next(((number, places[0]) for number, places in checks if places), None)
 
@@ -152,6 +154,16 @@ def warning_of(number, place):
 def demand_name(name):
     if not NAME.fullmatch(name):
         raise Wrong(f"{short(name)!r} is no name: a letter, then letters, digits, '-', '_' and '.'")
+
+
+def split_times(words):
+    """Name, duration and release of a job, the release '0' where none is given."""
+    if len(words) == 2:
+        words = [*words, 'release', '0']
+    if len(words) != 4 or words[2] != 'release':
+        raise Wrong('a job is: job NAME DURATION release RELEASE: CONDITIONS -> ADDITIONS - DELETIONS; '
+                    'the release may be left out')
+    return words[0], words[1], words[3]
 
 
 def split_lists(words):
@@ -192,9 +204,9 @@ def take_apart(file):
     first = front - distance
     records = [file[at:at + RECORD] for at in range(first, first + RECORD * count, RECORD)]
     for number, record in enumerate(records):
-        if any(record[26:]):
-            raise Wrong(f'the six bytes behind the duration of job {number} are not zero')
-    jobs = [struct.unpack('<QQQH', record[:26]) for record in records]
+        if any(record[28:]):
+            raise Wrong(f'the four bytes behind the release of job {number} are not zero')
+    jobs = [struct.unpack(FIELDS, record[:28]) for record in records]
     return jobs, (opening, goals, bound, atoms), (first, distance - RECORD * count)
 
 
@@ -203,16 +215,17 @@ def fact_names(word):
 
 
 def job_line(number, job):
-    conditions, additions, deletions, duration = job
+    conditions, additions, deletions, duration, release = job
+    late = f' release {release}' if release else ''
     behind = ' -' + fact_names(deletions) if deletions else ''
-    return f'job j{number} {duration}:{fact_names(conditions)} ->{fact_names(additions)}{behind}'
+    return f'job j{number} {duration}{late}:{fact_names(conditions)} ->{fact_names(additions)}{behind}'
 
 
 def text_of(file):
     """The text of the last save."""
     jobs, (opening, goals, bound, atoms), (before, behind) = take_apart(file)
     used = opening | goals
-    for conditions, additions, deletions, _ in jobs:
+    for conditions, additions, deletions, *_ in jobs:
         used |= conditions | additions | deletions
     # Facts at or above the atom count have names too, so that a text can be made of any file.
     named = max(min(atoms, MOST_FACTS), used.bit_length())

@@ -8,7 +8,7 @@
 
 #include "nuzzlefleece.h"
 
-enum { WORDS = 16, RECORD = 32, SAVED = 26, MOST_RECORDS = 255, MOST_OUT = 2048, MOST_TABLE = 65700 };
+enum { WORDS = 16, RECORD = 32, SAVED = 28, MOST_RECORDS = 255, MOST_OUT = 2048, MOST_TABLE = 65700 };
 
 /* One call as it stands in the stream, and what is lent to it. */
 static uint64_t head[WORDS];
@@ -51,6 +51,7 @@ static void read_records(void) {
         records[i].additions = number(bytes + 8, 8);
         records[i].deletions = number(bytes + 16, 8);
         records[i].duration = (uint16_t)number(bytes + 24, 2);
+        records[i].release = (uint16_t)number(bytes + 26, 2);
     }
 }
 

@@ -1,6 +1,6 @@
 /*
- * Calls every function of the C library on the scope's example P3, with nothing lent and with bad input, and holds each answer to the
- * scope's numbers. Last line: 'N passed, M failed'; any failure gives status 1.
+ * Calls every function of the C library on the scope's example P3, with warm released later, with nothing lent and with bad input, and
+ * holds each answer to the scope's numbers. Last line: 'N passed, M failed'; any failure gives status 1.
  */
 #include <stdio.h>
 #include <string.h>
@@ -17,8 +17,16 @@ static const nuzzlefleece_action p3[] = {
     {.conditions = FACT(1), .additions = FACT(3), .duration = 8},
     {.conditions = FACT(1), .additions = FACT(4), .deletions = FACT(2), .duration = 3},
 };
+/* The same with warm released at 6. */
+static const nuzzlefleece_action late[] = {
+    {.conditions = FACT(0), .additions = FACT(1), .deletions = FACT(0), .duration = 4},
+    {.conditions = FACT(1), .additions = FACT(2), .duration = 2},
+    {.conditions = FACT(1), .additions = FACT(3), .duration = 8, .release = 6},
+    {.conditions = FACT(1), .additions = FACT(4), .deletions = FACT(2), .duration = 3},
+};
 static const nuzzlefleece_ask p3_ask = {4, 5, FACT(0), FACT(2) | FACT(3) | FACT(4), 12, 0, 0};
 static const uint16_t p3_starts[] = {0, 7, 4, 4};
+static const uint16_t late_starts[] = {0, 7, 6, 4};
 static const uint8_t p3_pairs[] = {0, 1, 0, 2, 0, 3, 3, 1};
 static const char p3_page[] =
     "least 12\n0 4 0\n4 12 2\n4 7 3\n7 9 1\n0 before 1\n0 before 2\n0 before 3\n3 before 1\n";
@@ -85,6 +93,70 @@ static void answers_settling(void) {
     says("a pair outside the set", nuzzlefleece_settle(p3, 4, ask, p3_pairs, 8, out, 4), NUZZLEFLEECE_PAIRS_WRONG, 1, 0);
     ask.set = 16;
     says("no such job", nuzzlefleece_settle(p3, 4, ask, p3_pairs, 8, out, 4), NUZZLEFLEECE_PAIRS_WRONG, 601, 0);
+}
+
+/* The late crate's least bound, plan, estimates and settled starts. */
+static void answers_releases(void) {
+    uint16_t out[4] = {0};
+    nuzzlefleece_ask ask = p3_ask;
+    ask.bound = 2880;
+    says("least bound of the late crate", nuzzlefleece_least_bound(late, 4, ask, out, 4), 0, 0, 14);
+    expect("its starts", memcmp(out, late_starts, 8) == 0);
+    ask.bound = 13;
+    says("no sooner", nuzzlefleece_plan_within(late, 4, ask, out, 4), NUZZLEFLEECE_NO_PLAN, 0, 0);
+    says("estimates of the late crate", nuzzlefleece_earliest(late, 4, ask, out, 4), 0, 0, 0);
+    expect("warm from 6", out[0] == 0 && out[1] == 4 && out[2] == 6 && out[3] == 4);
+    ask.set = 15;
+    ask.pairs = 4;
+    says("settling from 6 ends too late", nuzzlefleece_settle(late, 4, ask, p3_pairs, 8, out, 4), NUZZLEFLEECE_NO_STARTS, 0, 0);
+    ask.bound = 14;
+    says("settling of the late crate", nuzzlefleece_settle(late, 4, ask, p3_pairs, 8, out, 4), 0, 0, 0);
+    expect("settled from the release", memcmp(out, late_starts, 8) == 0);
+}
+
+/* A start before the release is refused after a late end and before an overlap, by all that take a plan. */
+static void refuses_early_starts(void) {
+    static uint8_t out[NUZZLEFLEECE_PAIRS_BYTES];
+    uint16_t starts[4] = {0, 7, 6, 4};
+    nuzzlefleece_ask ask = p3_ask;
+    ask.bound = 14;
+    says("warm at its release", nuzzlefleece_check_plan(late, 4, ask, starts, 4), 0, 0, 0);
+    says("binding pairs of the late crate", nuzzlefleece_binding_pairs(late, 4, ask, starts, 4, out, sizeof out), 0, 0, 4);
+    expect("the pairs of P3", memcmp(out, p3_pairs, 8) == 0);
+    starts[2] = 5;
+    says("warm at 5", nuzzlefleece_check_plan(late, 4, ask, starts, 4), NUZZLEFLEECE_BEFORE_RELEASE, 2, 0);
+    says("its supports", nuzzlefleece_supports(late, 4, ask, starts, 4, out, 320), NUZZLEFLEECE_BEFORE_RELEASE, 2, 0);
+    says("its binding pairs", nuzzlefleece_binding_pairs(late, 4, ask, starts, 4, out, sizeof out), NUZZLEFLEECE_BEFORE_RELEASE, 2, 0);
+    starts[1] = 6;
+    says("before an overlap", nuzzlefleece_check_plan(late, 4, ask, starts, 4), NUZZLEFLEECE_BEFORE_RELEASE, 2, 0);
+    starts[3] = 12;
+    says("behind a late end", nuzzlefleece_check_plan(late, 4, ask, starts, 4), NUZZLEFLEECE_ENDS_TOO_LATE, 3, 0);
+}
+
+/* The release stands behind the duration in a file, four zeros behind it. */
+static void keeps_releases_in_files(void) {
+    static const uint8_t behind[] = {8, 0, 6, 0, 0, 0, 0, 0};
+    static uint8_t file[152];
+    nuzzlefleece_action back[4] = {{.duration = 0}};
+    nuzzlefleece_save save = {p3_ask, 0};
+    says("write releases", nuzzlefleece_write_file(late, 4, save, file, sizeof file), 0, 0, sizeof file);
+    expect("warm's record", memcmp(file + 64 + 24, behind, sizeof behind) == 0);
+    says("read releases", nuzzlefleece_read_file(file, sizeof file, back, 4).answer, 0, 0, 0);
+    expect("the releases read", back[0].release == 0 && back[2].release == 6 && back[2].duration == 8);
+    for (size_t at = 28; at < 32; at++) {
+        file[64 + at] = 1;
+        says("one of the four bytes", nuzzlefleece_read_file(file, sizeof file, back, 4).answer, NUZZLEFLEECE_FILE_DAMAGED, 0, 0);
+        file[64 + at] = 0;
+    }
+    file[64 + 26] = 2880 & 255;
+    file[64 + 27] = 2880 >> 8;
+    says("release 2880 in a file", nuzzlefleece_read_file(file, sizeof file, back, 4).answer, 0, 0, 0);
+    expect("the last release", back[2].release == NUZZLEFLEECE_MOST_RELEASE);
+    file[64 + 26]++;
+    says("release 2881 in a file", nuzzlefleece_read_file(file, sizeof file, back, 4).answer, NUZZLEFLEECE_RELEASE_WRONG, 2, 0);
+    expect("the records are as before", back[2].release == NUZZLEFLEECE_MOST_RELEASE);
+    back[2].release = NUZZLEFLEECE_MOST_RELEASE + 1;
+    says("write release 2881", nuzzlefleece_write_file(back, 4, save, file, sizeof file), NUZZLEFLEECE_RELEASE_WRONG, 2, 0);
 }
 
 /* A save is read back, and its page is bench-plan's text. */
@@ -164,9 +236,14 @@ static void refuses_tables(void) {
     ask.atoms = 2;
     ask.goals = 4;
     says("a goal at the atom count", nuzzlefleece_least_bound(jobs, 30, ask, out, 30), NUZZLEFLEECE_FACT_WRONG, 24, 65535);
+    jobs[5].release = 2880;
+    says("release 2880 is taken", nuzzlefleece_least_bound(jobs, 30, ask, out, 30), NUZZLEFLEECE_FACT_WRONG, 24, 65535);
+    jobs[5].release = 2881;
+    jobs[9].release = 65535;
+    says("release 2881", nuzzlefleece_least_bound(jobs, 30, ask, out, 30), NUZZLEFLEECE_RELEASE_WRONG, 5, 65535);
     jobs[23].duration = 961;
     says("961 quarter hours", nuzzlefleece_least_bound(jobs, 30, ask, out, 30), NUZZLEFLEECE_DURATION_WRONG, 23, 65535);
-    jobs[23] = job;
+    jobs[5] = jobs[9] = jobs[23] = job;
     jobs[7].deletions = 2;
     ask.goals = 2;
     says("adds and deletes", nuzzlefleece_least_bound(jobs, 30, ask, out, 30), NUZZLEFLEECE_ADDS_AND_DELETES, 7, 65535);
@@ -181,10 +258,12 @@ static void refuses_tables(void) {
 static void describes_itself(void) {
     expect("version", nuzzlefleece_version() == NUZZLEFLEECE_VERSION);
     expect("a record has 32 bytes", sizeof(nuzzlefleece_action) == NUZZLEFLEECE_RECORD_BYTES);
-    for (unsigned number = 0; number <= NUZZLEFLEECE_MARK_WRONG; number++) {
-        expect("words of a refusal", strcmp(nuzzlefleece_words(number), nuzzlefleece_words(19)) != 0);
+    for (unsigned number = 0; number <= NUZZLEFLEECE_BEFORE_RELEASE; number++) {
+        int none = strcmp(nuzzlefleece_words(number), "no such refusal") == 0;
+        expect("words of a refusal, and none for 19", none == (number == 19));
     }
-    expect("no more refusals", strcmp(nuzzlefleece_words(19), "no such refusal") == 0);
+    expect("words of 20", strcmp(nuzzlefleece_words(NUZZLEFLEECE_RELEASE_WRONG), "a release over 2,880") == 0);
+    expect("no more refusals", strcmp(nuzzlefleece_words(22), "no such refusal") == 0);
 }
 
 int main(void) {
@@ -192,6 +271,9 @@ int main(void) {
     answers_p3();
     answers_estimates();
     answers_settling();
+    answers_releases();
+    refuses_early_starts();
+    keeps_releases_in_files();
     answers_files();
     answers_readings();
     takes_null();

@@ -1,19 +1,29 @@
 """One call of the stream: its bytes, and the same in readable form. The format is that of tests/second/README.md."""
 import struct
+from typing import NamedTuple
 
 KINDS = {
     1: 'check plan', 2: 'plan within bound', 3: 'least bound', 4: 'supports', 5: 'binding pairs',
     6: 'estimates', 7: 'settle', 8: 'read file', 9: 'write file', 10: 'opening facts',
 }
 WORDS = 16
-RECORD = struct.Struct('<QQQH6s')
+RECORD = struct.Struct('<QQQHH4s')
 
 # What the product's program can take in; a stream that asks for more would test its buffers and not the planner.
 MOST_RECORDS, MOST_OUT, MOST_TABLE, MOST_FILE, MOST_MARKS = 255, 2048, 65600, 65700, 64
 
 
+class Job(NamedTuple):
+    """A record as it is lent or stands in a file; facts are bits, times quarter hours."""
+    conditions: int
+    additions: int
+    deletions: int
+    duration: int
+    release: int = 0
+
+
 class Call:
-    """A header of 16 words, the lent records (conditions, additions, deletions, duration), the given bytes."""
+    """A header of 16 words, the lent records, the given bytes."""
 
     def __init__(self, head, records=(), table=b''):
         self.head = list(head) + [0] * (WORDS - len(head))
@@ -21,9 +31,9 @@ class Call:
         self.table = bytes(table)
 
     def pack(self):
-        """The call as it stands in the stream; the six bytes behind a record are ignored, so they are not zero."""
+        """The call as it stands in the stream; the four bytes behind a release are ignored, so they are not zero."""
         self.demand_within_limits()
-        records = b''.join(RECORD.pack(*record, b'ignore') for record in self.records)
+        records = b''.join(RECORD.pack(*record, b'none') for record in self.records)
         return struct.pack('<16Q', *self.head) + records + self.table
 
     def demand_within_limits(self):
@@ -48,7 +58,7 @@ def read_call(stream):
     if not head:
         return None
     head = struct.unpack('<16Q', head)
-    records = [RECORD.unpack(stream.read(RECORD.size))[:4] for _ in range(head[8])]
+    records = [Job(*RECORD.unpack(stream.read(RECORD.size))[:5]) for _ in range(head[8])]
     return Call(head, records, stream.read(table_bytes(head)))
 
 
@@ -80,9 +90,8 @@ def table_text(call):
 
 
 def job_text(job):
-    conditions, additions, deletions, duration = job
-    return (f'needs {facts_text(conditions)} adds {facts_text(additions)} '
-            f'deletes {facts_text(deletions)}, {duration} long')
+    return (f'needs {facts_text(job.conditions)} adds {facts_text(job.additions)} '
+            f'deletes {facts_text(job.deletions)}, {job.duration} long, released at {job.release}')
 
 
 def bytes_text(name, data):

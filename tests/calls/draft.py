@@ -1,8 +1,11 @@
 """A call on a job table before it is packed: in order as it stands, and faults that can be put into it."""
 import struct
+from collections import namedtuple
+from dataclasses import replace
 
-from call import Call
-from tables import LAST_BOUND, LONGEST, MOST_JOBS, OUT
+from call import Call, Job
+from tables import (LAST_BOUND, LAST_RELEASE, LONGEST, MOST_JOBS, OUT, drawn_table, landing, on_time, planned,
+                    random_table)
 
 PAIR_TABLE = 552
 RECORD, TRAILER = 32, 24
@@ -17,7 +20,7 @@ def room_needed(kind, count):
 
 def save_bytes(jobs, count, atoms, opening, goals, bound, distance, notes=b''):
     """A save with notes behind its records."""
-    records = b''.join(struct.pack('<QQQH6x', *job) for job in jobs)
+    records = b''.join(struct.pack('<QQQHH4x', *job) for job in jobs)
     trailer = struct.pack('<QQHBBI', opening, goals, bound, count, atoms, distance)
     return records + notes + trailer
 
@@ -32,7 +35,7 @@ class Draft:
         self.set, self.pairs, self.pair_count = (1 << self.count) - 1, [], 0
         self.before, self.notes, self.behind = b'', b'', b''
         self.used, self.buffer = 0, bytes(RECORD * self.count + TRAILER)
-        self.lent = [(0x1111, 0x2222, 0x4444, 77)] * self.count
+        self.lent = [Job(0x1111, 0x2222, 0x4444, 77)] * self.count
         self.room, self.fill = room_needed(kind, self.count), 0xab
 
     def file(self):
@@ -58,9 +61,7 @@ class Draft:
         return Call(head, self.jobs, given)
 
     def set_field(self, place, field, value):
-        record = list(self.jobs[place])
-        record[field] = value
-        self.jobs[place] = tuple(record)
+        self.jobs[place] = self.jobs[place]._replace(**{field: value})
 
 
 # Faults. Each takes the draft, the dice and a job's place, and changes the draft where it can.
@@ -90,11 +91,11 @@ def bad_atoms(draft, dice, place):
 def many_jobs(draft, dice, place):
     """Over 24 jobs with everything lent that so many need."""
     draft.count = MOST_JOBS + dice.choice((1, 1, 2, 7))
-    filler = draft.jobs[-1] if draft.jobs else (0, 1, 0, 1)
+    filler = draft.jobs[-1] if draft.jobs else Job(0, 1, 0, 1)
     draft.jobs += [filler] * (draft.count - len(draft.jobs))
     draft.starts += [OUT] * (draft.count - len(draft.starts))
     draft.room = room_needed(draft.kind, draft.count)
-    draft.lent = [(1, 2, 4, 8)] * dice.choice((draft.count, draft.count, 255, MOST_JOBS))
+    draft.lent = [Job(1, 2, 4, 8)] * dice.choice((draft.count, draft.count, 255, MOST_JOBS))
     draft.buffer = bytes(RECORD * draft.count + TRAILER + draft.used)
 
 
@@ -102,14 +103,19 @@ def huge_count(draft, dice, place):
     """A job count that nothing lent can serve; a file's count is one byte."""
     if draft.kind == 8:
         draft.count = dice.choice((100, 255))
-        draft.jobs += [(0, 1, 0, 1)] * (draft.count - len(draft.jobs))
+        draft.jobs += [Job(0, 1, 0, 1)] * (draft.count - len(draft.jobs))
     else:
         draft.count = dice.choice((draft.count + 1, 256, 2 ** 16, 2 ** 32, 2 ** 58, 2 ** 59, 2 ** 63, MOST - 1, MOST))
 
 
 def bad_duration(draft, dice, place):
     if draft.jobs:
-        draft.set_field(place, 3, dice.choice((0, 0, LONGEST + 1, 1024, 32768, 65535)))
+        draft.set_field(place, 'duration', dice.choice((0, 0, LONGEST + 1, 1024, 32768, 65535)))
+
+
+def bad_release(draft, dice, place):
+    if draft.jobs:
+        draft.set_field(place, 'release', dice.choice((LAST_RELEASE + 1, LAST_RELEASE + 1, 4096, 32768, 65535)))
 
 
 def stray_fact(draft, dice, place):
@@ -117,8 +123,8 @@ def stray_fact(draft, dice, place):
     draft.atoms = min(draft.atoms, 63)
     stray = 1 << dice.choice((draft.atoms, draft.atoms, 63, dice.randint(draft.atoms, 63)))
     if draft.jobs:
-        field = dice.randrange(3)
-        draft.set_field(place, field, draft.jobs[place][field] | stray)
+        field = Job._fields[dice.randrange(3)]
+        draft.set_field(place, field, getattr(draft.jobs[place], field) | stray)
 
 
 def stray_beside(draft, dice, place):
@@ -135,8 +141,8 @@ def both_ways(draft, dice, place):
     """A job that adds and deletes one fact."""
     if draft.jobs:
         fact = 1 << dice.randrange(max(1, min(draft.atoms, 64)))
-        for field in (1, 2):
-            draft.set_field(place, field, draft.jobs[place][field] | fact)
+        for field in ('additions', 'deletions'):
+            draft.set_field(place, field, getattr(draft.jobs[place], field) | fact)
 
 
 def late_bound(draft, dice, place):
@@ -145,3 +151,31 @@ def late_bound(draft, dice, place):
 
 FAULTS = [short_records, short_room, short_given, bad_atoms, many_jobs, huge_count, bad_duration, stray_fact,
           stray_beside, both_ways, late_bound]
+
+
+# Crates: whether jobs get releases, and the faults that may be put in. The calls that stood before there were releases
+# are drawn with ON_TIME, by the same throws as ever.
+
+Crates = namedtuple('Crates', 'land faults')
+ON_TIME = Crates(on_time, FAULTS)
+LATE = Crates(landing, FAULTS + [bad_release, bad_release])
+
+
+def landed(dice, crates, problem):
+    return replace(problem, jobs=crates.land(dice, problem.jobs))
+
+
+def base_draft(dice, kind, jobs=None, crates=ON_TIME):
+    """A call in order, for faults to be put in; its plan is valid."""
+    table = random_table(dice, jobs, dice.choice((5, 33, 64)), 2, 9) if jobs else drawn_table(dice)
+    problem, starts = planned(dice, landed(dice, crates, table))
+    draft = Draft(kind, problem, starts)
+    draft.lent = list(crates.land(dice, draft.lent))
+    return draft
+
+
+def cut_to_limits(draft):
+    """What is lent stays within what the product's program takes in."""
+    draft.room = min(draft.room, 2048)
+    draft.jobs = draft.jobs[:255]
+    return draft

@@ -1,8 +1,8 @@
 """Calls of the reader with files in order and damaged, and of the writer at its limits."""
 import struct
 
-from call import Call
-from draft import MOST, RECORD, TRAILER, Draft, save_bytes
+from call import Call, Job
+from draft import MOST, RECORD, TRAILER, Draft, landed, save_bytes
 from tables import chain, jobs_u, large_table, small_table
 
 LONGEST_FILE = 65536
@@ -14,7 +14,8 @@ def read_call(file, lent):
 
 def some_records(dice, count):
     """What stands in the lent records before the call."""
-    return [(dice.getrandbits(64), dice.getrandbits(64), dice.getrandbits(64), dice.getrandbits(16)) for _ in range(count)]
+    return [Job(dice.getrandbits(64), dice.getrandbits(64), dice.getrandbits(64), dice.getrandbits(16))
+            for _ in range(count)]
 
 
 def save_of(problem, notes=b''):
@@ -23,14 +24,15 @@ def save_of(problem, notes=b''):
                       RECORD * count + len(notes), notes)
 
 
-def some_problem(dice):
-    return dice.choice((small_table, large_table))(dice)
+def some_problem(dice, crates):
+    return landed(dice, crates, dice.choice((small_table, large_table))(dice))
 
 
-def some_file(dice):
+def some_file(dice, crates):
     """A save with older saves or other bytes before it and notes within; and its job count."""
-    problem = some_problem(dice)
-    before = dice.choice((b'', dice.randbytes(dice.randint(1, 200)), save_of(some_problem(dice)), save_of(problem) * 2))
+    problem = some_problem(dice, crates)
+    older = dice.randbytes(dice.randint(1, 200)), save_of(some_problem(dice, crates)), save_of(problem) * 2
+    before = dice.choice((b'', *older))
     notes = dice.choice((b'', b'', dice.randbytes(dice.randint(1, 90))))
     return before + save_of(problem, notes), len(problem.jobs)
 
@@ -66,7 +68,7 @@ def other_count(dice, file):
 
 
 def not_zero(dice, file):
-    """One of the six bytes behind a duration."""
+    """One of the six bytes behind a duration; two are the release and may be, four may not."""
     distance, count = struct.unpack('<I', file[-4:])[0], file[len(file) - TRAILER + 18]
     if count == 0:
         return file
@@ -97,20 +99,21 @@ DAMAGE = (flipped, flipped, flipped_trailer, flipped_trailer, other_distance, ot
           appended)
 
 
-def reading(dice):
-    file, count = some_file(dice)
+def reading(dice, crates):
+    file, count = some_file(dice, crates)
     if dice.random() < 0.6:
         file = dice.choice(DAMAGE)(dice, file)
     if dice.random() < 0.03:
         file = stretched(dice, file)
-    return read_call(file, some_records(dice, dice.choice((count, count, count, count + 1, max(0, count - 1), 24, 255))))
+    lent = some_records(dice, dice.choice((count, count, count, count + 1, max(0, count - 1), 24, 255)))
+    return read_call(file, crates.land(dice, lent))
 
 
 # The writer.
 
-def writing(dice):
+def writing(dice, crates):
     """Behind some bytes in use, with the buffer just long enough, longer, or too short."""
-    draft = Draft(9, some_problem(dice))
+    draft = Draft(9, some_problem(dice, crates))
     draft.used = dice.choice((0, 0, 1, 31, dice.randint(0, 300)))
     length = draft.used + RECORD * draft.count + TRAILER + dice.choice((0, 0, 0, 1, 40, -1, -24))
     draft.buffer = dice.randbytes(max(0, length))
@@ -157,9 +160,9 @@ def long_files(dice):
 
 
 def many_records(dice):
-    """25 to 255 jobs in the file, with records lent or not; one of the last record's six bytes comes first."""
+    """25 to 255 jobs in the file, with records lent or not; one of the last record's four bytes comes first."""
     for count in (24, 25, 26, 100, 254, 255):
-        save = save_bytes([(0, 1, 0, 1)] * count, count, 1, 0, 0, 9, RECORD * count)
+        save = save_bytes([Job(0, 1, 0, 1)] * count, count, 1, 0, 0, 9, RECORD * count)
         spoilt = save[:RECORD * count - 1] + b'\1' + save[RECORD * count:]
         for lent in (24, count - 1, count, 255):
             yield read_call(save, some_records(dice, lent))
@@ -167,7 +170,7 @@ def many_records(dice):
 
 
 def every_damage(dice):
-    """Each of the six bytes of each job, each distance around the right ones, each byte of the trailer."""
+    """Each of the six bytes behind each duration, each distance around the right ones, each byte of the trailer."""
     file = save_of(jobs_u([2, 3], 12), b'notes')
     for at in (RECORD * j + byte for j in range(4) for byte in range(26, 32)):
         yield read_call(file[:at] + b'\x80' + file[at + 1:], some_records(dice, 4))

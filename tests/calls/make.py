@@ -11,51 +11,35 @@ from dataclasses import replace
 sys.dont_write_bytecode = True
 import files
 import readings
-from call import Call
-from draft import FAULTS, MOST, OFFERED, TABLED, Draft
-from tables import (LAST_BOUND, LONGEST, OUT, Problem, chain, clashing, deleting_table, go_twice, house, interfere, jobs_u,
-                    large_table, last_end, random_chain, random_house, random_table, random_tower, small_table,
-                    some_facts, some_plan, tower, trolley, with_goals)
+import releases
+from call import Call, Job
+from draft import FAULTS, LATE, MOST, OFFERED, ON_TIME, TABLED, Draft, base_draft, cut_to_limits, landed
+from tables import (LAST_BOUND, LONGEST, NAMED, OUT, Problem, chain, clashing, drawn_table, house, interfere,
+                    large_table, last_end, planned, some_facts, tower)
 
-SEED = 20040725
-DRAWN = 7000
-
-
-# Tables with a plan that is valid within their bound.
-
-NAMED = [jobs_u([2, 3], 12), jobs_u([2, 3, 4], 12), jobs_u([0], 0), jobs_u([0, 1], LAST_BOUND), go_twice(), trolley(2)]
+SEED, DRAWN = 20040725, 7000
+LATE_SEED, LATE_DRAWN = 20050725, 800
 
 
-def drawn_table(dice):
-    make = dice.choice((small_table, small_table, deleting_table, deleting_table, random_chain, random_tower, random_house))
-    return make(dice)
-
-
-def planned(dice, problem):
-    """A table with goals that a plan meets, and the plan."""
-    starts = some_plan(dice, problem)
-    return with_goals(dice, problem, starts), starts
-
-
-def planned_table(dice):
-    return planned(dice, dice.choice((drawn_table, drawn_table, large_table))(dice))
+def planned_table(dice, crates):
+    return planned(dice, landed(dice, crates, dice.choice((drawn_table, drawn_table, large_table))(dice)))
 
 
 # Planning.
 
-def planning_table(dice):
+def planning_table(dice, crates):
     """Mostly with a plan; else with goals that may be out of reach."""
     if dice.random() < 0.06:
-        return dice.choice(NAMED)
-    problem, _ = planned(dice, drawn_table(dice))
+        return landed(dice, crates, dice.choice(NAMED))
+    problem, _ = planned(dice, landed(dice, crates, drawn_table(dice)))
     if dice.random() < 0.15:
         return replace(problem, goals=problem.goals | 1 << dice.randrange(problem.atoms))
     return problem
 
 
-def planning(dice):
+def planning(dice, crates):
     """Within the bound of a plan, one less, half of it, or all the time there is."""
-    problem = planning_table(dice)
+    problem = planning_table(dice, crates)
     bound = dice.choice((problem.bound, problem.bound, max(0, problem.bound - 1), problem.bound // 2, LAST_BOUND))
     draft = Draft(dice.choice((2, 2, 3)), replace(problem, bound=bound))
     return with_lengths(draft, dice).call()
@@ -64,7 +48,7 @@ def planning(dice):
 def with_lengths(draft, dice):
     """More is lent than needed, now and then."""
     draft.room += dice.choice((0, 0, 1, 3))
-    draft.jobs += [(MOST, MOST, MOST, OUT)] * dice.choice((0, 0, 1))
+    draft.jobs += [Job(MOST, MOST, MOST, OUT)] * dice.choice((0, 0, 1))
     draft.fill = dice.choice((0, 0xff, 0xab, 0x01))
     return draft
 
@@ -100,8 +84,8 @@ def kept(dice, problem, starts):
     """The valid plan as it is."""
 
 
-def offered(dice):
-    problem, starts = planned_table(dice)
+def offered(dice, crates):
+    problem, starts = planned_table(dice, crates)
     dice.choice((kept, kept, kept, moved, moved, left_out, put_in, swapped))(dice, problem, starts)
     if dice.random() < 0.1:
         problem = replace(problem, bound=max(0, last_end(problem, starts) - 1))
@@ -114,9 +98,9 @@ def offered(dice):
 
 # Estimates.
 
-def estimating(dice):
+def estimating(dice, crates):
     """The bound plays no part here, so it may be any."""
-    problem = dice.choice((drawn_table, large_table, large_table))(dice)
+    problem = landed(dice, crates, dice.choice((drawn_table, large_table, large_table))(dice))
     return with_lengths(Draft(6, replace(problem, bound=dice.choice((0, 12, 65535)))), dice).call()
 
 
@@ -142,7 +126,7 @@ def any_pairs(dice, jobs):
 
 def settled_end(draft):
     """Where the last job ends at the least starts, or more than any bound if the pairs go in a circle."""
-    starts = {j: 0 for j in range(draft.count) if draft.set >> j & 1}
+    starts = {j: draft.jobs[j].release for j in range(draft.count) if draft.set >> j & 1}
     for _ in range(len(starts) + 1):
         moves = [(b, starts[a] + draft.jobs[a][3]) for a, b in draft.pairs if starts[b] < starts[a] + draft.jobs[a][3]]
         for b, start in moves:
@@ -152,8 +136,8 @@ def settled_end(draft):
     return max((start + draft.jobs[j][3] for j, start in starts.items()), default=0)
 
 
-def settling(dice):
-    problem, starts = planned_table(dice)
+def settling(dice, crates):
+    problem, starts = planned_table(dice, crates)
     draft = Draft(7, problem)
     draft.set = dice.choice((draft.set, sum(1 << j for j, start in enumerate(starts) if start != OUT),
                              draft.set & dice.getrandbits(24)))
@@ -201,26 +185,12 @@ def settling_limits(dice):
 
 # Bad input.
 
-def base_draft(dice, kind, jobs=None):
-    """A call in order, for faults to be put in; its plan is valid."""
-    table = random_table(dice, jobs, dice.choice((5, 33, 64)), 2, 9) if jobs else drawn_table(dice)
-    problem, starts = planned(dice, table)
-    return Draft(kind, problem, starts)
-
-
-def faulty(dice):
+def faulty(dice, crates):
     """One to four faults at once, in a random order of places."""
-    draft = base_draft(dice, dice.choice(TABLED), dice.choice((None, 2, 8, 24)))
-    for fault in dice.sample(FAULTS, dice.choice((1, 1, 2, 3, 4))):
+    draft = base_draft(dice, dice.choice(TABLED), dice.choice((None, 2, 8, 24)), crates)
+    for fault in dice.sample(crates.faults, dice.choice((1, 1, 2, 3, 4))):
         fault(draft, dice, dice.randrange(len(draft.jobs)) if draft.jobs else 0)
     return cut_to_limits(draft).call()
-
-
-def cut_to_limits(draft):
-    """What is lent stays within what the product's program takes in."""
-    draft.room = min(draft.room, 2048)
-    draft.jobs = draft.jobs[:255]
-    return draft
 
 
 def every_fault(dice):
@@ -259,7 +229,7 @@ def every_count(dice):
     for kind in TABLED[:-2]:
         for count in (24, 25, 26, 31, 32, 64, 254, 255):
             draft = base_draft(dice, kind, 24)
-            draft.jobs, draft.starts = [(0, 1, 0, 1)] * count, [OUT] * count
+            draft.jobs, draft.starts = [Job(0, 1, 0, 1)] * count, [OUT] * count
             draft.count, draft.room = count, 2048
             yield draft.call()
 
@@ -270,8 +240,13 @@ def edges(dice):
         for long in (1, LONGEST, LONGEST + 1):
             for bound in (long, LAST_BOUND, LAST_BOUND + 1):
                 for atoms in (1, 2, 64, 65):
-                    yield Draft(kind, Problem(((0, 2, 0, long),), atoms, 1, 2, min(bound, 65535)), [0]).call()
+                    yield Draft(kind, Problem((Job(0, 2, 0, long),), atoms, 1, 2, min(bound, 65535)), [0]).call()
     yield from (Call([kind]) for kind in (0, 11))
+
+
+def opening(dice, crates):
+    """Readings know nothing of crates."""
+    return readings.opening(dice)
 
 
 # Named problems, at their bounds.
@@ -307,27 +282,36 @@ def all_clash(dice):
 WALKS = (settling_limits, all_clash, every_fault, every_place, every_length, every_count, edges, named, files.walk,
          readings.walk)
 FAMILIES = ((20, planning), (27, offered), (7, estimating), (11, settling), (11, files.reading), (6, files.writing),
-            (10, readings.opening), (12, faulty))
+            (10, opening), (12, faulty))
+LATE_FAMILIES = [(weight, family) for weight, family in FAMILIES if family is not opening]
 
 
-def drawn(dice, count):
+def drawn(dice, count, crates):
     """Calls of all families, by weight."""
-    weights, families = zip(*FAMILIES)
+    weights, families = zip(*(FAMILIES if crates is ON_TIME else LATE_FAMILIES))
     for _ in range(count):
-        yield dice.choices(families, weights)[0](dice)
+        yield dice.choices(families, weights)[0](dice, crates)
 
 
-def corpus():
-    """The fixed calls: every walk, then drawn ones, in a mixed order."""
-    dice = random.Random(SEED)
-    calls = [call for walk in WALKS for call in walk(dice)]
-    calls += drawn(dice, DRAWN)
+def mixed(seed, walks, count, crates):
+    """Every walk, then drawn calls, in a mixed order."""
+    dice = random.Random(seed)
+    calls = [call for walk in walks for call in walk(dice)]
+    calls += drawn(dice, count, crates)
     dice.shuffle(calls)
     return calls
 
 
+def corpus():
+    """The fixed calls: those that stood before there were releases, unchanged, and behind them those with releases."""
+    return mixed(SEED, WALKS, DRAWN, ON_TIME) + mixed(LATE_SEED, releases.WALKS, LATE_DRAWN, LATE)
+
+
 def more(count, seed):
-    return drawn(random.Random(seed), count)
+    """Half of the calls on tables with releases."""
+    dice = random.Random(seed)
+    for _ in range(count):
+        yield from drawn(dice, 1, dice.choice((ON_TIME, LATE)))
 
 
 def main(words):

@@ -1,13 +1,15 @@
 """Job tables for the stream of calls, and plans for them that are valid by the way they are made."""
 from dataclasses import dataclass, replace
 
+from call import Job
+
 OUT = 65535
-MOST_JOBS, LAST_BOUND, LONGEST = 24, 2880, 960
+MOST_JOBS, LAST_BOUND, LONGEST, LAST_RELEASE = 24, 2880, 960, 2880
 
 
 @dataclass(frozen=True)
 class Problem:
-    """Jobs are (conditions, additions, deletions, duration), facts are bits."""
+    """Jobs, and the numbers of a call beside them; facts are bits."""
     jobs: tuple
     atoms: int
     opening: int
@@ -20,7 +22,7 @@ def word(*facts):
 
 
 def job(conditions, additions, deletions, duration):
-    return word(*conditions), word(*additions), word(*deletions), duration
+    return Job(word(*conditions), word(*additions), word(*deletions), duration)
 
 
 # Named problems.
@@ -97,6 +99,9 @@ def clashing(count):
     return Problem(tuple(jobs), 2 * count, 0, word(*range(count)), count)
 
 
+NAMED = [jobs_u([2, 3], 12), jobs_u([2, 3, 4], 12), jobs_u([0], 0), jobs_u([0, 1], LAST_BOUND), go_twice(), trolley(2)]
+
+
 # Random tables.
 
 def some_facts(dice, most, atoms):
@@ -105,8 +110,8 @@ def some_facts(dice, most, atoms):
 
 def some_job(dice, atoms, deletions, longest):
     additions = word(dice.randrange(atoms)) | some_facts(dice, 1, atoms)
-    return (some_facts(dice, 2, atoms), additions, some_facts(dice, deletions, atoms) & ~additions,
-            dice.randint(1, longest))
+    return Job(some_facts(dice, 2, atoms), additions, some_facts(dice, deletions, atoms) & ~additions,
+               dice.randint(1, longest))
 
 
 def some_jobs(dice, count, atoms, deletions, longest):
@@ -150,7 +155,7 @@ def random_tower(dice):
     """A small tower, with only some of the stackings that are not wanted."""
     whole = tower(dice.choice((2, 3)))
     kept = [j for j in whole.jobs if j[1] & whole.goals or dice.random() < 0.7]
-    longer = [(*j[:3], dice.choice((1, 1, 2, 5))) for j in kept]
+    longer = [j._replace(duration=dice.choice((1, 1, 2, 5))) for j in kept]
     return replace(whole, jobs=tuple(longer))
 
 
@@ -160,6 +165,31 @@ def random_house(dice):
         problem = house([dice.randrange(12) for _ in range(dice.randint(1, 3))])
         if len(problem.jobs) <= 9:
             return problem
+
+
+def drawn_table(dice):
+    makers = small_table, small_table, deleting_table, deleting_table, random_chain, random_tower, random_house
+    return dice.choice(makers)(dice)
+
+
+# Releases.
+
+def released(problem, releases):
+    """The same table with these releases, from job 0 on."""
+    late = [job._replace(release=release) for job, release in zip(problem.jobs, releases)]
+    return replace(problem, jobs=(*late, *problem.jobs[len(late):]))
+
+
+def on_time(dice, jobs):
+    """No job has a release."""
+    return tuple(jobs)
+
+
+def landing(dice, jobs):
+    """Each job has no release or one of the table's two, so that some come together and some jobs stay the same."""
+    last = dice.choice((2, 6, 12, 12, 40, 200, LAST_RELEASE))
+    times = (0, dice.randint(0, last), dice.randint(0, last))
+    return tuple(job._replace(release=dice.choice(times)) for job in jobs)
 
 
 # Plans that are valid by the way they are made.
@@ -179,10 +209,12 @@ def facts_at(problem, starts, time):
 
 
 def earliest_place(problem, starts, number):
-    """The earliest start behind all jobs placed so far that interfere, at which the conditions hold; or None."""
+    """The earliest start at which the conditions hold, from the release on and behind all jobs placed so far that
+    interfere; or None."""
     placed = [j for j, start in enumerate(starts) if start != OUT]
     ends = {j: starts[j] + problem.jobs[j][3] for j in placed}
-    free = max((ends[j] for j in placed if interfere(problem.jobs[j], problem.jobs[number])), default=0)
+    behind = [ends[j] for j in placed if interfere(problem.jobs[j], problem.jobs[number])]
+    free = max([problem.jobs[number].release, *behind])
     for time in sorted({free, *(end for end in ends.values() if end > free)}):
         if not problem.jobs[number][0] & ~facts_at(problem, starts, time):
             return time
@@ -190,7 +222,7 @@ def earliest_place(problem, starts, number):
 
 
 def some_plan(dice, problem, left_out=0.15, slack=(0, 0, 0, 1, 4)):
-    """Jobs in a random order, each as early as the ones before it allow, or a little later."""
+    """Jobs in a random order, each as early as the ones before it and its release allow, or a little later."""
     starts = [OUT] * len(problem.jobs)
     order = dice.sample(range(len(starts)), len(starts))
     unwanted = {j for j in order if dice.random() < left_out}
@@ -218,3 +250,9 @@ def with_goals(dice, problem, starts):
         goals |= 1 << dice.choice(new)
     bound = min(last_end(problem, starts) + dice.choice((0, 0, 1, 3)), LAST_BOUND)
     return replace(problem, goals=goals, bound=bound)
+
+
+def planned(dice, problem):
+    """A table with goals that a plan meets, and the plan."""
+    starts = some_plan(dice, problem)
+    return with_goals(dice, problem, starts), starts

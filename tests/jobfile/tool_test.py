@@ -32,6 +32,11 @@ job j1 2: f1 -> f2
 job j2 8: f1 -> f3
 job j3 3: f1 -> f4 - f2
 '''
+# The same with warm released at 6; a release of 0 may be said too, and any zeros before a number.
+LATE = U.replace('job warm 8:', 'job warm 8 release 6:')
+LATE_FILE = U_FILE[:90] + b'\6' + U_FILE[91:]
+LATE_SHOWN = SHOWN.replace('job j2 8:', 'job j2 8 release 6:')
+ON_TIME = U.replace('job warm 8:', 'job warm 8 release 000:')
 ERRORS = [
     ('bounds 3', 1, 'a line begins with'),
     ('\n\nfacts a a', 3, 'fact a is named twice'),
@@ -51,6 +56,14 @@ ERRORS = [
     ('job a 3 ->', 1, 'a job is'),
     ('job a: ->', 1, 'a job is'),
     ('job a x: ->', 1, 'a duration is a number'),
+    ('job a 3 release: ->', 1, 'a job is'),
+    ('job a 3 6: ->', 1, 'a job is'),
+    ('job a 3 later 6: ->', 1, 'a job is'),
+    ('job a 3 release 6 7: ->', 1, 'a job is'),
+    ('job a release 6: ->', 1, 'a job is'),
+    ('job a 3 release x: ->', 1, 'a release is a number'),
+    ('job a 3 release -1: ->', 1, 'a release is a number'),
+    ('job a 3 release 65536: ->', 1, 'from 0 to 65535'),
     ('job 1 3: ->', 1, 'is no name'),
     ('job a 3: ->\njob a 3: ->', 2, 'job a is named twice'),
     ('facts p\njob a 3: p', 2, 'one -> stands'),
@@ -68,7 +81,7 @@ BAD_FILES = [
     (bytes(1 << 17), 'more than 65536'),
     (U_FILE[:-4] + struct.pack('<I', 127), 'the distance 127'),
     (U_FILE[:-4] + struct.pack('<I', 129), 'the distance 129'),
-    (U_FILE[:95] + b'\1' + U_FILE[96:], 'of job 2 are not zero'),
+    *((U_FILE[:at] + b'\1' + U_FILE[at + 1:], 'behind the release of job 2 are not zero') for at in range(92, 96)),
 ]
 # What the planner will refuse, with the number and the place, 0 for none.
 WARNED = [
@@ -77,12 +90,15 @@ WARNED = [
     ('facts a\nbound 5\n' + '\n'.join(f'job a{n} 1: ->' for n in range(25)), 5, 0),
     ('facts a\nbound 5\njob b 1: ->\njob c 961: ->\njob d 0: ->', 6, 1),
     ('facts a\nbound 5\njob b 0: ->', 6, 0),
+    ('facts a\nbound 5\njob b 0 release 2881: ->', 6, 0),
+    ('facts a\nbound 5\njob b 1 release 2880: ->\njob c 1 release 2881: ->\njob d 1 release 65535: ->', 20, 1),
+    ('facts a b\natoms 1\nbound 2881\njob c 1: b -> a - a\njob d 1 release 2881: ->\nopen b', 20, 1),
     ('facts a b\natoms 1\nbound 5\njob c 1: a ->\njob d 1: b ->\nopen b', 7, 1),
     ('facts a b\natoms 1\nbound 5\ngoals b', 7, 24),
     ('facts a\nbound 2881\njob b 1: -> a - a', 8, 0),
     ('facts a\nbound 2881', 9, 0),
 ]
-IN_ORDER = 'facts a\nbound 2880\n' + '\n'.join(f'job a{n} 960: -> a' for n in range(24))
+IN_ORDER = 'facts a\nbound 2880\n' + '\n'.join(f'job a{n} 960 release 2880: -> a' for n in range(24))
 # What the shell does with the tool, and the words that must be said.
 UNABLE = [
     ('"$0" make </', 'is a folder'),
@@ -127,7 +143,8 @@ def random_file(dice):
     count = dice.choice((0, 1, 3, 24, 25, 255))
     bits = dice.choice((1, 5, 63, 64))
     words = lambda: dice.getrandbits(bits) & dice.getrandbits(bits)
-    records = b''.join(struct.pack('<QQQH6x', words(), words(), words(), dice.getrandbits(16)) for _ in range(count))
+    times = lambda: (dice.getrandbits(16), dice.choice((0, dice.getrandbits(16))))
+    records = b''.join(struct.pack('<QQQHH4x', words(), words(), words(), *times()) for _ in range(count))
     atoms = dice.choice((0, bits, 64, 65, 255))
     return records + struct.pack('<QQHBBI', words(), words(), dice.getrandbits(16), count, atoms, len(records))
 
@@ -136,6 +153,9 @@ def cases():
     """Name and outcome of each case."""
     yield 'make of jobs U', run('make', U.encode()) == (0, U_FILE, '')
     yield 'show of jobs U', run('show', U_FILE) == (0, SHOWN.encode(), '')
+    yield 'make of a release', run('make', LATE.encode()) == (0, LATE_FILE, '')
+    yield 'show of a release', run('show', LATE_FILE) == (0, LATE_SHOWN.encode(), '')
+    yield 'release 0', run('make', ON_TIME.encode()) == (0, U_FILE, '')
     dice = random.Random(4)
     for number in range(20):
         file = random_file(dice)
@@ -150,15 +170,17 @@ def cases():
         status, out, said = run('show', file)
         yield f'bad file {words!r}', (status, out) == (1, b'') and words in said
     yield 'usage', run('take', b'')[0] == 2
-    yield 'help', run('--help', b'')[::2] == (0, '') and b'job unpack 4' in run('--help', b'')[1]
+    yield 'help', run('--help', b'')[::2] == (0, '') and b'release 6' in run('--help', b'')[1]
     yield 'byte order mark', run('make', b'\xef\xbb\xbf' + U.encode()) == (0, U_FILE, '')
     yield 'zeros before a number', run('make', U.replace('bound 12', 'bound ' + '0' * 9999 + '12').encode()) == (0, U_FILE, '')
     table = refusal_words()
     with open(os.path.join(ROOT, 'tools/refusals'), encoding='utf-8') as lines:
-        yield 'words of the refusals', [tuple(line.rstrip('\n').split('|')) for line in lines] == table and len(table) == 18
+        told = [tuple(line.rstrip('\n').split('|')) for line in lines]
+    yield 'words of the refusals', told == table and len(table) == 20
+    said_of = {int(number): (words, where) for number, words, where in table}
     for text, number, place in WARNED:
         status, out, said = run('make', text.encode())
-        _, words, where = table[number - 1]
+        words, where = said_of[number]
         wanted = f'refusal {number}: {words}' + (f'; place {place}: {where}' if where != '0' else '') + '\n'
         yield f'warning of {number} at {place}', status == 0 and len(out) >= 24 and said.startswith('jobfile: warning: ') and said.endswith(wanted)
     yield 'no warning', run('make', IN_ORDER.encode())[::2] == (0, '')

@@ -14,7 +14,7 @@ use Rattle.facts.specs.Least.{least, further, any}
 use Rattle.refusals.specs.Refusals.{Verdict, accepted, refuseIf, refuseAt}
 use Rattle.rules.specs.Table.{between, strays, jobStrays, undoes, jobChecks, tableChecks, boundCheck}
 use Rattle.rules.specs.Plans.{starts, inPlan, spoils, interfere, ends, afterIf, finishes, holds}
-use Rattle.rules.specs.Verdicts.{late, overlap, clashes, unready, missing, planChecks}
+use Rattle.rules.specs.Verdicts.{late, early, overlap, clashes, unready, missing, planChecks}
 use Rattle.rules.specs.Supports.{blocks, startFits, jobFits, name, named}
 use Rattle.rules.specs.Pairs.{isJob, feeds, binds, joined, pairIf, pairBytes}
 use Rattle.tables.specs.declared.Action.{Action}
@@ -27,7 +27,7 @@ use Rattle.verdict.specs.Offered.{offered}
 use Rattle.bindings.specs.Bindings.{pairVerdict, Pairs, written}
 
 abbrev action : (conditions additions deletions duration : ℕ) → Action
-action c a d t = record { conditions = c; additions = a; deletions = d; duration = t }
+action c a d t = record { conditions = c; additions = a; deletions = d; duration = t; release = 0 }
 
 -- unpack, drench, warm, wash
 abbrev pub jobsU : Loaded
@@ -60,7 +60,7 @@ abbrev pub plan3 : List ℕ
 plan3 = 0 ∷ 7 ∷ 4 ∷ 4 ∷ []
 
 accepts3 : offered false jobsU (askU 28 12) plan3 accepted ≡ accepted
-unfolding boundCheck tableChecks jobChecks between strays jobStrays undoes planChecks refuseAt refuseIf late clashes overlap unready missing interfere spoils holds finishes afterIf ends inPlan after has any least further
+unfolding boundCheck tableChecks jobChecks between strays jobStrays undoes planChecks refuseAt refuseIf late early clashes overlap unready missing interfere spoils holds finishes afterIf ends inPlan after has any least further
 accepts3 = refl
 
 pairs3 : pairBytes (problem jobsU (askU 28 12)) (starts plan3) ≡ 0 ∷ 1 ∷ 0 ∷ 2 ∷ 0 ∷ 3 ∷ 3 ∷ 1 ∷ []
@@ -76,7 +76,7 @@ abbrev pub plan14 : List ℕ
 plan14 = 0 ∷ 4 ∷ 6 ∷ 65535 ∷ []
 
 accepts14 : offered false jobsU (askU 12 14) plan14 accepted ≡ accepted
-unfolding boundCheck tableChecks jobChecks between strays jobStrays undoes planChecks refuseAt refuseIf late clashes overlap unready missing interfere spoils holds finishes afterIf ends inPlan after has any least further
+unfolding boundCheck tableChecks jobChecks between strays jobStrays undoes planChecks refuseAt refuseIf late early clashes overlap unready missing interfere spoils holds finishes afterIf ends inPlan after has any least further
 accepts14 = refl
 
 pairs14 : pairBytes (problem jobsU (askU 12 14)) (starts plan14) ≡ 0 ∷ 1 ∷ 0 ∷ 2 ∷ []

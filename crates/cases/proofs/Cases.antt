@@ -1,4 +1,4 @@
--- P1 to P11 hold: one statement for the whole table.
+-- P1 to P11 and the numbers of 02 hold: one statement for the whole table.
 -- Assumes nothing.
 use mathlib.Core.Path.{refl}
 use native.Mathlib.Omega.{arith}
@@ -7,15 +7,16 @@ use Rattle.facts.specs.Least.{least, further, any}
 use Rattle.refusals.specs.Refusals.{refuseIf, refuseAt}
 use Rattle.rules.specs.Table.{between, strays, jobStrays, undoes, jobChecks, tableChecks, boundCheck}
 use Rattle.rules.specs.Plans.{inPlan, spoils, interfere, ends, afterIf, finishes, holds}
-use Rattle.rules.specs.Verdicts.{late, overlap, clashes, unready, missing, planChecks}
+use Rattle.rules.specs.Verdicts.{late, early, overlap, clashes, unready, missing, planChecks}
+use Rattle.rules.specs.Estimates.{plus, cheapest, cost, condition, dearest}
 use Rattle.tenths.specs.Tenths.{inRange, tenths}
 use Rattle.tenths.specs.Rounding.{float}
 use Rattle.cases.specs.Jobs.{facts}
 use Rattle.cases.specs.Claims.{AllHold}
 use Rattle.cases.specs.Cases.{cases}
-use Rattle.cases.proofs.Refute.{some, every, addIf, collect, include, dueIf, exclude, ahead, behind, isJob, chain, broken, wants, guards, step, refute, hopeless}
+use Rattle.cases.proofs.Refute.{some, every, addIf, collect, include, dueIf, exclude, ahead, behind, isJob, atLeast, chain, broken, wants, guards, step, refute, hopeless}
 use Rattle.cases.proofs.Firsts.{sooner, dueBefore, noneBefore}
-use Rattle.cases.proofs.Shown.{tidy, plans-ok, none-ok, least-ok, judged-ok, touch-ok, tenths-ok, takes-ok, refuses-ok}
+use Rattle.cases.proofs.Shown.{plans-ok, none-ok, least-ok, judged-ok, touch-ok, tenths-ok, solves, estimates-ok, takes-ok, refuses-ok}
 
 -- one case, and all that follow
 infixr 20 _also_
@@ -23,26 +24,26 @@ _also_ : {A B : Type 0} → A → B → A × B
 a also b = (a, b)
 
 pub all-hold : AllHold cases
-unfolding _also_ cases facts has after least further any refuseIf refuseAt between strays jobStrays undoes jobChecks tableChecks boundCheck inPlan spoils interfere ends afterIf finishes holds late overlap clashes unready missing planChecks inRange tenths float some every addIf collect include dueIf exclude ahead behind isJob chain broken wants guards step refute hopeless sooner dueBefore noneBefore tidy
+unfolding _also_ cases facts has after least further any refuseIf refuseAt between strays jobStrays undoes jobChecks tableChecks boundCheck inPlan spoils interfere ends afterIf finishes holds late early overlap clashes unready missing planChecks inRange tenths float some every addIf collect include dueIf exclude ahead behind isJob atLeast chain broken wants guards step refute hopeless sooner dueBefore noneBefore solves plus cheapest cost condition dearest
 all-hold =
     -- P1
-    plans-ok refl tt refl tt
+    plans-ok refl refl tt
     -- P2
-    also none-ok refl tt tt
+    also none-ok refl tt
     -- P3
-    also least-ok refl tt refl tt tt
-    also (judged-ok refl tt refl, touch-ok (omega arith) (omega arith) tt tt refl)
+    also least-ok refl refl tt tt
+    also (judged-ok refl refl, touch-ok (omega arith) (omega arith) tt tt refl)
     -- P4
-    also judged-ok refl tt refl
+    also judged-ok refl refl
     -- P5
-    also plans-ok refl tt refl tt
+    also plans-ok refl refl tt
     -- P6
-    also none-ok refl tt tt
+    also none-ok refl tt
     -- P7
-    also plans-ok refl tt refl tt
-    also none-ok refl tt tt
+    also plans-ok refl refl tt
+    also none-ok refl tt
     -- P8
-    also none-ok refl tt tt
+    also none-ok refl tt
     -- P9
     also tenths-ok tt refl
     also tenths-ok tt refl
@@ -53,6 +54,12 @@ all-hold =
     -- P11
     also takes-ok refl
     also refuses-ok (omega arith) refl
+    also takes-ok refl
+    also refuses-ok (omega arith) refl
+    -- Five
+    also least-ok refl refl tt tt
+    also estimates-ok refl tt
+    also judged-ok refl refl
     also takes-ok refl
     also refuses-ok (omega arith) refl
     also tt

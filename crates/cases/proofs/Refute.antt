@@ -2,7 +2,7 @@
 -- Assumes nothing.
 use mathlib.Core.Bool.{Bool, true, false, not, _&&_, _||_}
 use mathlib.Core.List.{List, [], _∷_, _++_}
-use Prim.Native.Nat.{ℕ, zero, suc, _+_}
+use Prim.Native.Nat.{ℕ, zero, suc, _+_, max}
 use lib.Dec.{eqb, ltb}
 use Rattle.facts.specs.Facts.{has}
 use Rattle.facts.specs.Least.{any}
@@ -79,12 +79,16 @@ isJob goal d = false
 isJob (task b) d = eqb d b
 
 module _ (P : Problem) where
+  -- when job i starts at the earliest, if it starts at t or later
+  unfoldable pub atLeast : (i t : ℕ) → ℕ
+  atLeast i t = max t (P .release i)
+
   -- from job i, which starts at t or later, orders lead to a job that ends too late, or back to o
   unfoldable pub chain : Known → (fuel o i t : ℕ) → Bool
   chain k zero o i t = false
   chain k (suc n) o i t =
-      let rest = some (λ e. let on = eqb (e .b) o || chain k n o (e .b) (t + P .duration i + P .gap) in eqb (e .a) i && on) (k .orders) in
-      ltb (k .due i) (t + P .duration i) || rest
+      let rest = some (λ e. let on = eqb (e .b) o || chain k n o (e .b) (atLeast i t + P .duration i + P .gap) in eqb (e .a) i && on) (k .orders) in
+      ltb (k .due i) (atLeast i t + P .duration i) || rest
 
   -- so no plan is as known
   unfoldable pub broken : Known → Bool

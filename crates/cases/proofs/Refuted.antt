@@ -16,7 +16,7 @@ use Rattle.rules.specs.Premises.{InOrder, deletes}
 use Rattle.rules.specs.Plans.{Plan, In, finish, Over, Valid}
 use Rattle.rules.specs.Supports.{Consumer, Support, start, nobody, by, Who, task, goal, consumer}
 use Rattle.rules.proofs.Supported.{Supports, Supported, backed}
-use Rattle.cases.proofs.Refute.{Order, order, Known, Task, want, guard, some, every, addIf, collect, include, dueIf, exclude, ahead, behind, isJob, chain, broken, wants, guards, step, refute, hopeless}
+use Rattle.cases.proofs.Refute.{Order, order, Known, Task, want, guard, some, every, addIf, collect, include, dueIf, exclude, ahead, behind, isJob, atLeast, chain, broken, wants, guards, step, refute, hopeless}
 
 -- ── lists ──
 
@@ -77,12 +77,15 @@ module _ (P : Problem) (ok : InOrder P) (bound : ℕ) (z : Plan) (v : Valid P bo
 
   -- along an order starts rise, so a chain neither ends too late nor comes back
   chain-ok : (k : Known) → Fits k → (n o i t : ℕ) → T (chain P k n o i t) → In P z i → t ≤ z i → z o ≤ z i → ⊥
-  unfolding chain
+  unfolding atLeast chain
   chain-ok k f zero o i t x m l h = x
-  chain-ok k f (suc n) o i t x m l h = go (or-cases (ltb (k .due i) (t + P .duration i)) _ x) (chain-ok k f n o)
+  chain-ok k f (suc n) o i t x m l h = go (or-cases (ltb (k .due i) (atLeast P i t + P .duration i)) _ x) (chain-ok k f n o)
     where
+      begins : atLeast P i t ≤ z i
+      begins = omega (arith, v .released i m)
+
       on : Order → Bool
-      on e = eqb (e .b) o || chain P k n o (e .b) (t + P .duration i + P .gap)
+      on e = eqb (e .b) o || chain P k n o (e .b) (atLeast P i t + P .duration i + P .gap)
 
       along : (e : Order) → Kept e → T (eqb (e .a) i && on e) → ((j u : ℕ) → T (chain P k n o j u) → In P z j → u ≤ z j → z o ≤ z j → ⊥) → ⊥
       along e (a, b, c) y r = way (or-cases (eqb (e .b) o) _ (and-r (eqb (e .a) i) _ y))
@@ -90,13 +93,13 @@ module _ (P : Problem) (ok : InOrder P) (bound : ℕ) (z : Plan) (v : Valid P bo
           over : z i + P .duration i + P .gap ≤ z (e .b)
           over = rw (eqb→eq (e .a) i (and-l (eqb (e .a) i) _ y)) at c
 
-          way : T (eqb (e .b) o) ⊎ T (chain P k n o (e .b) (t + P .duration i + P .gap)) → ⊥
+          way : T (eqb (e .b) o) ⊎ T (chain P k n o (e .b) (atLeast P i t + P .duration i + P .gap)) → ⊥
           way (inl q) = let same : z (e .b) ≡ z o = rw (eqb→eq (e .b) o q) in omega (arith, over, ok .long i (m .below))
-          way (inr q) = r (e .b) _ q b (omega (arith, over)) (omega (arith, over))
+          way (inr q) = r (e .b) _ q b (omega (arith, over, begins)) (omega (arith, over))
 
-      go : T (ltb (k .due i) (t + P .duration i)) ⊎ T (some (λ e. eqb (e .a) i && on e) (k .orders))
+      go : T (ltb (k .due i) (atLeast P i t + P .duration i)) ⊎ T (some (λ e. eqb (e .a) i && on e) (k .orders))
           → ((j u : ℕ) → T (chain P k n o j u) → In P z j → u ≤ z j → z o ≤ z j → ⊥) → ⊥
-      go (inl y) r = omega (arith, ltb→lt (k .due i) (t + P .duration i) y, f .due i m)
+      go (inl y) r = omega (arith, ltb→lt (k .due i) (atLeast P i t + P .duration i) y, f .due i m, begins)
       go (inr y) r = let w = some-at Kept (λ e. eqb (e .a) i && on e) (k .orders) (f .orders) y in along (w .0) (w .1) (w .2) r
 
   broken-ok : (k : Known) → Fits k → T (broken P k) → ⊥

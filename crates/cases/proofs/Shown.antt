@@ -14,35 +14,23 @@ use Rattle.facts.proofs.Least.{any-of}
 use Rattle.refusals.specs.Refusals.{Verdict, accepted, refused}
 use Rattle.rules.specs.Table.{Problem, tableChecks, boundCheck}
 use Rattle.rules.specs.Premises.{InOrder}
-use Rattle.rules.specs.Plans.{Plan, inPlan, In, finish, interfere, Valid}
+use Rattle.rules.specs.Plans.{Plan, inPlan, finish, interfere, Valid}
 use Rattle.rules.specs.Verdicts.{planChecks}
+use Rattle.rules.specs.Estimates.{dearest, Estimates}
 use Rattle.rules.specs.Order.{First, LeastBound, NoPlan, Planned, Bounded}
 use Rattle.refusals.proofs.Refused.{Checks, then-checks, went-on, stopped, if-pass}
 use Rattle.rules.proofs.CheckLists.{table-checks, bound-checks}
 use Rattle.rules.proofs.Checked.{in-order}
 use Rattle.rules.proofs.Judged.{judged}
+use Rattle.rules.proofs.Early.{estimates-only}
 use Rattle.rules.proofs.Orders.{wider, planned-only, bounded-only}
 use Rattle.tenths.specs.Tenths.{inRange, AreTenths, tenths}
 use Rattle.tenths.proofs.Largest.{tenths-are}
-use Rattle.cases.specs.Claims.{tableAndBound, Taken, RefusedWith, Plans, Refuses10, LeastIs, Judged, Touch, HasTenths}
+use Rattle.cases.specs.Claims.{tableAndBound, Taken, RefusedWith, Plans, Refuses10, LeastIs, Judged, Touch, HasTenths, EstimatesAre}
 use Rattle.cases.proofs.Refute.{hopeless}
 use Rattle.cases.proofs.Firsts.{noneBefore, none, first, below-least}
 
--- ── tables without a release ──
-
--- no job has a release
-unfoldable pub tidy : Problem → Bool
-tidy P = not (any (λ i. not (eqb (P .release i) 0)) (P .count))
-
-released : (P : Problem) → T (tidy P) → (s : Plan) (i : ℕ) → In P s i → P .release i ≤ s i
-unfolding tidy
-released P t s i k = omega (
-  arith,
-  eqb→eq (P .release i) 0 (certain (eqb (P .release i) 0)
-      (λ n. T-not (any (λ j. not (eqb (P .release j) 0)) (P .count)) t (any-of (λ j. not (eqb (P .release j) 0)) (P .count) i (k .below) n))),
-)
-
--- ── checks 4 to 9 ──
+-- ── checks 4 to 9 and 20 ──
 
 -- what the checks do with nothing behind them they do whatever is behind them
 pub takes-ok : {P : Problem} {bound : ℕ} → tableAndBound P bound accepted ≡ accepted → Taken P bound
@@ -54,7 +42,7 @@ refuses-ok {P} {bound} {number} {place} l e = record { stops = λ next. stopped 
     some : tableAndBound P bound accepted .number ≡ 0 → ⊥
     some z = omega (arith, ap (λ (v : Verdict). v .number) e)
 
--- a table that is taken with some bound passes checks 4 to 8
+-- a table that is taken with some bound passes checks 4 to 8 and 20
 table-goes-on : (P : Problem) (bound : ℕ) → tableAndBound P bound accepted ≡ accepted → (next : Verdict) → tableChecks P next ≡ next
 table-goes-on P bound t = go (table-checks P)
   where
@@ -62,28 +50,28 @@ table-goes-on P bound t = go (table-checks P)
     go (inl (v, ne, e)) = absurd (ne (ap (λ (w : Verdict). w .number) (sym (e _) ∙ t)))
     go (inr e) = e
 
-module _ (P : Problem) (bound : ℕ) (taken : tableAndBound P bound accepted ≡ accepted) (t : T (tidy P)) where
+module _ (P : Problem) (bound : ℕ) (taken : tableAndBound P bound accepted ≡ accepted) where
   -- so the table is in order, and the verdict on a plan says whether it is valid
   ordered : InOrder P
   ordered = in-order P (table-goes-on P bound taken accepted)
 
   accepts : (s : Plan) → (planChecks P bound s accepted ≡ accepted) ↔ Valid P bound s
-  accepts s = judged P ordered bound s (released P t s)
+  accepts s = judged P ordered bound s
 
 -- ── the claims: of each what is computed, then what it says ──
 
-pub plans-ok : {P : Problem} {bound : ℕ} {s : Plan} → tableAndBound P bound accepted ≡ accepted → T (tidy P) → planChecks P bound s accepted ≡ accepted → T (noneBefore P bound s) → Plans P bound s
-plans-ok {P} {bound} {s} taken t e x = record {
+pub plans-ok : {P : Problem} {bound : ℕ} {s : Plan} → tableAndBound P bound accepted ≡ accepted → planChecks P bound s accepted ≡ accepted → T (noneBefore P bound s) → Plans P bound s
+plans-ok {P} {bound} {s} taken e x = record {
   taken = takes-ok taken;
   first = f;
   answer = λ v z a. let r = planned-only P bound v accepted z s a (inl (refl, f)) in (r .0, r .1 (r .0));
 }
   where
     f : First P bound s
-    f = first P (ordered P bound taken t) bound s (accepts P bound taken t s .0 e) x
+    f = first P (ordered P bound taken) bound s (accepts P bound taken s .0 e) x
 
-pub none-ok : {P : Problem} {bound : ℕ} → tableAndBound P bound accepted ≡ accepted → T (tidy P) → T (hopeless P (λ i. bound)) → Refuses10 P bound
-none-ok {P} {bound} taken t x = record {
+pub none-ok : {P : Problem} {bound : ℕ} → tableAndBound P bound accepted ≡ accepted → T (hopeless P (λ i. bound)) → Refuses10 P bound
+none-ok {P} {bound} taken x = record {
   taken = takes-ok taken;
   none = n;
   answer = λ v z. (ten v z, λ e. inr (e, n));
@@ -91,7 +79,7 @@ none-ok {P} {bound} taken t x = record {
 }
   where
     n : NoPlan P bound
-    n = none P (ordered P bound taken t) bound x
+    n = none P (ordered P bound taken) bound x
 
     ten : (v : Verdict) (z : Plan) → Planned P bound v z → v ≡ refused 10 0
     ten v z (inl (e, f)) = absurd (n z (f .ok))
@@ -101,9 +89,9 @@ none-ok {P} {bound} taken t x = record {
     ten-least v b z (inl (e, l)) = absurd (n z (wider P b bound z (l .within) (l .first .ok)))
     ten-least v b z (inr (e, (h, m))) = (e, h)
 
-pub least-ok : {P : Problem} {b : ℕ} {s : Plan} → tableAndBound P b accepted ≡ accepted → T (tidy P) → planChecks P b s accepted ≡ accepted → T (noneBefore P b s) → T (hopeless P (λ i. b - 1)) → LeastIs P b s
+pub least-ok : {P : Problem} {b : ℕ} {s : Plan} → tableAndBound P b accepted ≡ accepted → planChecks P b s accepted ≡ accepted → T (noneBefore P b s) → T (hopeless P (λ i. b - 1)) → LeastIs P b s
 unfolding boundCheck
-least-ok {P} {b} {s} taken t e x y = record {
+least-ok {P} {b} {s} taken e x y = record {
   taken = λ given l. record { goes-on = λ next. table-goes-on P b taken _ ∙ if-pass (ltb 2880 given) 9 0 next (λ h. omega (arith, ltb→lt 2880 given h)) };
   least = l;
   none = n;
@@ -111,15 +99,15 @@ least-ok {P} {b} {s} taken t e x y = record {
 }
   where
     n : (given : ℕ) → given < b → NoPlan P given
-    n = below-least P (ordered P b taken t) b y
+    n = below-least P (ordered P b taken) b y
 
     l : (given : ℕ) → b ≤ given → LeastBound P given b s
-    l given m = record { within = m; first = plans-ok taken t e x .first; none = λ c z h w. n c h z w }
+    l given m = record { within = m; first = plans-ok taken e x .first; none = λ c z h w. n c h z w }
 
-pub judged-ok : {P : Problem} {bound : ℕ} {s : Plan} {v : Verdict} → tableAndBound P bound accepted ≡ accepted → T (tidy P) → planChecks P bound s accepted ≡ v → Judged P bound s v
-judged-ok {P} {bound} {s} taken t e = record {
+pub judged-ok : {P : Problem} {bound : ℕ} {s : Plan} {v : Verdict} → tableAndBound P bound accepted ≡ accepted → planChecks P bound s accepted ≡ v → Judged P bound s v
+judged-ok {P} {bound} {s} taken e = record {
   said = takes-ok taken .goes-on _ ∙ e;
-  valid = (λ h. accepts P bound taken t s .0 (e ∙ h), λ w. sym e ∙ accepts P bound taken t s .1 w);
+  valid = (λ h. accepts P bound taken s .0 (e ∙ h), λ w. sym e ∙ accepts P bound taken s .1 w);
 }
 
 pub touch-ok : {P : Problem} {s : Plan} {a b : ℕ} → a < P .count → b < P .count → T (inPlan s a && inPlan s b) → T (interfere P a b) → finish P s a ≡ s b → Touch P s a b
@@ -131,3 +119,17 @@ touch-ok {P} {s} {a} {b} l m i c e = record {
 
 pub tenths-ok : {x : Float} {t : ℤ} → T (inRange x) → tenths x ≡ t → HasTenths x t
 tenths-ok {x} {t} h e = record { ranged = h; largest = subst (AreTenths x) e (tenths-are x) }
+
+-- the numbers are what the rules make of them, job by job
+unfoldable pub solves : Problem → (est : ℕ → ℕ) → Bool
+solves P est = not (any (λ i. not (eqb (est i) (dearest P est i 64))) (P .count))
+
+pub estimates-ok : {P : Problem} {est : ℕ → ℕ} → tableAndBound P 0 accepted ≡ accepted → T (solves P est) → EstimatesAre P est
+unfolding solves
+estimates-ok {P} {est} taken t = record { solved = all; only = λ e x i l. estimates-only P (ordered P 0 taken) e est x all i l }
+  where
+    differs : ℕ → Bool
+    differs i = not (eqb (est i) (dearest P est i 64))
+
+    all : Estimates P est
+    all i l = eqb→eq (est i) (dearest P est i 64) (certain (eqb (est i) (dearest P est i 64)) (λ n. T-not (any differs (P .count)) t (any-of differs (P .count) i l n)))

@@ -1,12 +1,12 @@
--- P1 to P11 of 01 as one table. What a line claims of the rules is said in Claims.
+-- P1 to P11 of 01 and the numbers of 02 as one table. What a line claims of the rules is said in Claims.
 -- Assumes nothing.
 use mathlib.Core.List.{List, [], _∷_}
 use Prim.Native.Nat.{ℕ}
 use lib.IntN.{pos, negℤ}
 use Rattle.rules.specs.Table.{Problem}
 use Rattle.tenths.specs.Rounding.{float}
-use Rattle.cases.specs.Jobs.{action, problemOf, lasting}
-use Rattle.cases.specs.Claims.{Claim, plans, noPlan, least, touching, offered, tenths, takes, refuses}
+use Rattle.cases.specs.Jobs.{action, problemOf, lasting, landing}
+use Rattle.cases.specs.Claims.{Claim, plans, noPlan, least, touching, offered, tenths, estimates, takes, refuses}
 use Rattle.tables.specs.declared.Action.{Action}
 
 -- ── jobs U ──
@@ -34,6 +34,10 @@ U goals = problemOf (unpack ∷ drench ∷ warm ∷ wash ∷ []) 5 (0 ∷ []) go
 -- the same with warm this long
 abbrev pub warming : (long : ℕ) → Problem
 warming long = problemOf (unpack ∷ drench ∷ lasting long warm ∷ wash ∷ []) 5 (0 ∷ []) (3 ∷ [])
+
+-- jobs U, goals {2, 3, 4}, with warm released then
+abbrev pub warmFrom : (release : ℕ) → Problem
+warmFrom release = problemOf (unpack ∷ drench ∷ landing release warm ∷ wash ∷ []) 5 (0 ∷ []) (2 ∷ 3 ∷ 4 ∷ [])
 
 -- ── the jobs of P8, in the order of their numbers ──
 
@@ -63,7 +67,7 @@ out = 65535
 
 -- ── the table ──
 
--- every P case, in the order of 01
+-- every P case, in the order of 01, then those of 02
 unfoldable pub cases : List Claim
 cases =
     -- P1: goals {2, 3}, bound 12: starts 0, 4, 4, out
@@ -104,4 +108,14 @@ cases =
     ∷ takes (U (2 ∷ 3 ∷ [])) 2880
     -- P11: 2,881 is refused with 9
     ∷ refuses (U (2 ∷ 3 ∷ [])) 2881 9 0
+    -- Five: warm released at 6: least bound 14, starts 0, 7, 6, 4
+    ∷ least (warmFrom 6) 14 (0 ∷ 7 ∷ 6 ∷ 4 ∷ [])
+    -- Five: the estimates are 0, 4, 6, 4
+    ∷ estimates (warmFrom 6) (0 ∷ 4 ∷ 6 ∷ 4 ∷ [])
+    -- Five: that plan with warm at 5: refusal 21, place 2
+    ∷ offered (warmFrom 6) 14 (0 ∷ 7 ∷ 5 ∷ 4 ∷ []) 21 2
+    -- Five: release 2,880 is taken
+    ∷ takes (warmFrom 2880) 12
+    -- Five: 2,881 is refused with 20 and the job's place
+    ∷ refuses (warmFrom 2881) 12 20 2
     ∷ []

@@ -11,6 +11,7 @@ use Rattle.refusals.specs.Refusals.{Verdict, accepted, refused}
 use Rattle.rules.specs.Table.{Problem, tableChecks, boundCheck}
 use Rattle.rules.specs.Plans.{Plan, starts, In, finish, interfere, Valid}
 use Rattle.rules.specs.Verdicts.{planChecks}
+use Rattle.rules.specs.Estimates.{Estimates}
 use Rattle.rules.specs.Order.{First, LeastBound, NoPlan, Planned, Bounded}
 use Rattle.tenths.specs.Tenths.{inRange, AreTenths}
 
@@ -28,14 +29,16 @@ pub data Claim : Type 0 where
   offered : Problem → (bound : ℕ) → (starts : List ℕ) → (number place : ℕ) → Claim
   -- the reading has these tenths
   tenths : Float → ℤ → Claim
-  -- checks 4 to 9 take the table and the bound
+  -- these are the earliest estimates
+  estimates : Problem → (numbers : List ℕ) → Claim
+  -- checks 4 to 9 and 20 take the table and the bound
   takes : Problem → (bound : ℕ) → Claim
-  -- checks 4 to 9 refuse the table or the bound with this number and place
+  -- checks 4 to 9 and 20 refuse the table or the bound with this number and place
   refuses : Problem → (bound : ℕ) → (number place : ℕ) → Claim
 
 -- ── what the claims say ──
 
--- checks 4 to 9 of a call, and what is said behind them
+-- checks 4 to 9 and 20 of a call, and what is said behind them
 abbrev pub tableAndBound : Problem → (bound : ℕ) → Verdict → Verdict
 tableAndBound P bound next = tableChecks P (boundCheck bound next)
 
@@ -87,6 +90,11 @@ pub record HasTenths (x : Float) (t : ℤ) : Type 0 where
   pub ranged : T (inRange x)
   pub largest : AreTenths x t
 
+-- the numbers solve the rules of the estimates, and no others do
+pub record EstimatesAre (P : Problem) (est : ℕ → ℕ) : Type 0 where
+  pub solved : Estimates P est
+  pub only : (e : ℕ → ℕ) → Estimates P e → (i : ℕ) → i < P .count → e i ≡ est i
+
 -- what a case claims of the rules
 abbrev pub IsSo : Claim → Type 0
 IsSo (plans P bound l) = Plans P bound (starts l)
@@ -95,6 +103,7 @@ IsSo (least P b l) = LeastIs P b (starts l)
 IsSo (touching P bound l a b) = Judged P bound (starts l) accepted × Touch P (starts l) a b
 IsSo (offered P bound l number place) = Judged P bound (starts l) (refused number place)
 IsSo (tenths x t) = HasTenths x t
+IsSo (estimates P l) = EstimatesAre P (starts l)
 IsSo (takes P bound) = Taken P bound
 IsSo (refuses P bound number place) = RefusedWith P bound number place
 

@@ -13,9 +13,9 @@ unfoldable pub facts : List ℕ → ℕ
 facts [] = 0
 facts (p ∷ ps) = bitOr (facts ps) (2 ^ p)
 
--- a job by the facts that it needs, adds and deletes, and how long it is
+-- a job by the facts that it needs, adds and deletes, and how long it is; it has no release
 abbrev pub action : (needs adds deletes : List ℕ) (long : ℕ) → Action
-action needs adds deletes long = record { conditions = facts needs; additions = facts adds; deletions = facts deletes; duration = long }
+action needs adds deletes long = record { conditions = facts needs; additions = facts adds; deletions = facts deletes; duration = long; release = 0 }
 
 -- the problem of these jobs, numbered from 0
 abbrev pub problemOf : List Action → (atoms : ℕ) → (opening goals : List ℕ) → Problem
@@ -25,4 +25,8 @@ problemOf jobs atoms opening goals =
 
 -- the same job with another duration
 abbrev pub lasting : (long : ℕ) → Action → Action
-lasting long a = record { conditions = a .conditions; additions = a .additions; deletions = a .deletions; duration = long }
+lasting long a = record { conditions = a .conditions; additions = a .additions; deletions = a .deletions; duration = long; release = a .release }
+
+-- the same job with a release
+abbrev pub landing : (release : ℕ) → Action → Action
+landing release a = record { conditions = a .conditions; additions = a .additions; deletions = a .deletions; duration = a .duration; release = release }

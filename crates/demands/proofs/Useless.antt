@@ -14,7 +14,7 @@ use Rattle.refusals.specs.Refusals.{Verdict, accepted, refused, refuseIf, refus
 use Rattle.rules.specs.Table.{Problem, between, strays, jobStrays, undoes, jobChecks, tableChecks, boundCheck}
 use Rattle.rules.specs.Premises.{InOrder}
 use Rattle.rules.specs.Plans.{starts, inPlan, spoils, interfere, ends, afterIf, finishes, holds, Valid}
-use Rattle.rules.specs.Verdicts.{late, overlap, clashes, unready, missing, planChecks}
+use Rattle.rules.specs.Verdicts.{late, early, overlap, clashes, unready, missing, planChecks}
 use Rattle.rules.proofs.Judged.{judged}
 use Rattle.rules.proofs.Orders.{wider}
 use Rattle.tables.specs.declared.Answer.{Answer}
@@ -50,18 +50,18 @@ order3 = in-order P3 table3
 -- ── plans that are valid, and plans that are not ──
 
 p1 : planChecks P1 12 (starts (0 ∷ 4 ∷ 4 ∷ 65535 ∷ [])) accepted ≡ accepted
-unfolding planChecks refuseAt refuseIf late clashes overlap unready missing interfere spoils holds finishes afterIf ends inPlan after has any least further
+unfolding planChecks refuseAt refuseIf late early clashes overlap unready missing interfere spoils holds finishes afterIf ends inPlan after has any least further
 p1 = refl
 
 valid1 : Valid P1 12 (starts (0 ∷ 4 ∷ 4 ∷ 65535 ∷ []))
-valid1 = judged P1 order1 12 (starts (0 ∷ 4 ∷ 4 ∷ 65535 ∷ [])) (λ i k. omega arith) .0 p1
+valid1 = judged P1 order1 12 (starts (0 ∷ 4 ∷ 4 ∷ 65535 ∷ [])) .0 p1
 
 p3 : planChecks P3 12 (starts plan3) accepted ≡ accepted
-unfolding planChecks refuseAt refuseIf late clashes overlap unready missing interfere spoils holds finishes afterIf ends inPlan after has any least further
+unfolding planChecks refuseAt refuseIf late early clashes overlap unready missing interfere spoils holds finishes afterIf ends inPlan after has any least further
 p3 = refl
 
 valid3 : Valid P3 12 (starts plan3)
-valid3 = judged P3 order3 12 (starts plan3) (λ i k. omega arith) .0 p3
+valid3 = judged P3 order3 12 (starts plan3) .0 p3
 
 -- no job at all
 abbrev pub empty : List ℕ
@@ -72,11 +72,11 @@ abbrev pub untouched : List ℕ
 untouched = 0 ∷ 0 ∷ 0 ∷ 0 ∷ []
 
 empty-fails : planChecks P1 12 (starts empty) accepted ≡ refused 14 2
-unfolding planChecks refuseAt refuseIf late clashes overlap unready missing interfere spoils holds finishes afterIf ends inPlan after has any least further
+unfolding planChecks refuseAt refuseIf late early clashes overlap unready missing interfere spoils holds finishes afterIf ends inPlan after has any least further
 empty-fails = refl
 
 untouched-fails : planChecks P1 12 (starts untouched) accepted ≡ refused 12 1
-unfolding planChecks refuseAt refuseIf late clashes overlap unready missing interfere spoils holds finishes afterIf ends inPlan after has any least further
+unfolding planChecks refuseAt refuseIf late early clashes overlap unready missing interfere spoils holds finishes afterIf ends inPlan after has any least further
 untouched-fails = refl
 
 -- ── the promise at P1 ──
@@ -101,7 +101,7 @@ module _ (old new : List ℕ) (r : Answer) (room : 4 ≤ length old) (p : PlansW
   -- so a plan that the checks refuse is not given
   not-given : (zs : List ℕ) (n k : ℕ) → 0 < n → planChecks P1 12 (starts zs) accepted ≡ refused n k → r .number ≡ 0 → ((i : ℕ) → i < 4 → getD new i 0 ≡ getD zs i 0) → ⊥
   not-given zs n k l h z e =
-      let o : n ≡ 0 = ap (λ (v : Verdict). v .number) (sym h ∙ judged P1 order1 12 (starts zs) (λ i m. omega arith) .1 (given zs z e)) in
+      let o : n ≡ 0 = ap (λ (v : Verdict). v .number) (sym h ∙ judged P1 order1 12 (starts zs) .1 (given zs z e)) in
       omega arith
 
   -- always the empty plan

@@ -1,6 +1,6 @@
--- Rounds of estimates where there is no gap and no release, as in 01.
+-- Rounds of estimates where there is no gap.
 -- Assumes nothing.
-use mathlib.Core.Path.{_≡_, sym, ap, ap₂, _∙_}
+use mathlib.Core.Path.{_≡_, sym, ap, _∙_}
 use mathlib.Core.Logic.{⊎-elim}
 use mathlib.Core.Bool.{cond}
 use mathlib.Core.List.{List}
@@ -45,18 +45,22 @@ condition-cost P z e p = ⊎-elim (λ o. cond-yes (has (P .opening) p) 0 _ o ∙
 
 -- ── a round ──
 
-module _ (P : Problem) (gap : P .gap ≡ 0) (release : (i : ℕ) → P .release i ≡ 0) where
-  pub greatest-is : (e : ℕ → ℕ) (costs : List ℕ) (i k : ℕ) → k ≤ 64 → Costs P e costs 64 → greatest (P .conditions i) costs k ≡ dearest P e i k
+module _ (P : Problem) (gap : P .gap ≡ 0) where
+  -- the greater of the release and the greatest cost
+  pub greatest-is : (e : ℕ → ℕ) (costs : List ℕ) (i k : ℕ) → k ≤ 64 → Costs P e costs 64 → max (P .release i) (greatest (P .conditions i) costs k) ≡ dearest P e i k
   unfolding greatest dearest
-  greatest-is e costs i zero l h = sym (release i)
-  greatest-is e costs i (suc p) l h = ap₂ (λ (x y : ℕ). max (cond (has (P .conditions i) p) x 0) y) (h p (omega arith) ∙ sym (condition-cost P gap e p)) (greatest-is e costs i p (omega arith) h)
+  greatest-is e costs i zero l h = omega arith
+  greatest-is e costs i (suc p) l h =
+      let c : entry costs p ≡ condition P e p = h p (omega arith) ∙ sym (condition-cost P gap e p) in
+      let r : max (P .release i) (greatest (P .conditions i) costs p) ≡ dearest P e i p = greatest-is e costs i p (omega arith) h in
+      rw c (omega arith)
 
   -- no estimate is too low
   abbrev pub High : List ℕ → Type 0
   High est = (i : ℕ) → i < P .count → dearest P (entry est) i 64 ≤ entry est i
 
-  pub high-first : (est : List ℕ) → ((i : ℕ) → i < P .count → entry est i ≡ 65535) → High est
-  high-first est h i l = omega (arith, h i l, dearest-cap P (entry est) i, release i)
+  pub high-first : ((i : ℕ) → i < P .count → P .release i ≤ 65535) → (est : List ℕ) → ((i : ℕ) → i < P .count → entry est i ≡ 65535) → High est
+  high-first released est h i l = omega (arith, h i l, dearest-cap P (entry est) i, released i l)
 
   pub high-next : (est next : List ℕ) → High est → NextRound P (entry est) next (P .count) → High next
   high-next est next h r i l = rw (r i l) (dearest-mono P (entry next) (entry est) i 64 (λ j m. rw (r j m) (h j m)))

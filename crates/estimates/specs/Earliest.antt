@@ -12,7 +12,7 @@ use Rattle.tables.specs.declared.Loaded.{Loaded}
 use Rattle.tables.specs.declared.Ask.{Ask}
 use Rattle.tables.specs.declared.Answer.{Answer}
 
--- checks 3 to 8, where `room` numbers are lent: one a job
+-- checks 3 to 8 and 20, where `room` numbers are lent: one a job
 abbrev pub earliestChecks : Loaded → Ask → (room : ℕ) → Verdict → Verdict
 earliestChecks l q room next = callChecks (ltb room (q .jobs)) 0 l q next
 

@@ -1,10 +1,11 @@
 // Earliest estimates: from 65,535 downwards until a round changes nothing.
 ghost use mathlib.Core.Path.{_≡_};
 ghost use mathlib.Core.Bool.{cond};
-ghost use Prim.Native.Nat.{_≤_, _<_, min};
+ghost use Prim.Native.Nat.{_≤_, _<_, min, max};
 ghost use Rattle.facts.specs.Facts.{has};
 ghost use Rattle.rules.specs.Estimates.{plus, cost, Estimates};
 ghost use Rattle.tables.specs.Tables.{problem};
+ghost use Rattle.tables.specs.Steps.{Released};
 ghost use Rattle.entries.specs.Entries.{entry};
 ghost use Rattle.estimates.specs.Rounds.{greatest, Costs, CostOf, NextRound};
 ghost use Rattle.estimates.specs.Earliest.{Earliest};
@@ -104,6 +105,13 @@ pub fn dearest(l: Loaded, q: Ask, est: [u16; 24], w: u64) -> u16
     greatest(w, costs(l, q, est))
 }
 
+// A job's estimate: the greater of its release and the greatest cost of its conditions.
+fn estimate(release: u16, ready: u16) -> u16
+    ensures { λ r. ⌜ r ≡ max release ready ⌝ }
+{
+    entries::higher(release, ready)
+}
+
 // Each job's estimate from the present ones.
 fn round(l: Loaded, q: Ask, est: [u16; 24]) -> [u16; 24]
     requires { ⌜ q .jobs ≤ 24 ⌝ }
@@ -114,14 +122,15 @@ fn round(l: Loaded, q: Ask, est: [u16; 24]) -> [u16; 24]
     let mut next = est;
     for i in 0..n {
         let a = l.jobs[i];
-        next[i] = greatest(a.conditions, costs);
+        let ready = greatest(a.conditions, costs);
+        next[i] = estimate(a.release, ready);
     }
     next
 }
 
 // The estimates of all jobs.
 pub fn estimate_all(l: Loaded, q: Ask) -> [u16; 24]
-    requires { ⌜ q .jobs ≤ 24 ⌝ }
+    requires { ⌜ (q .jobs ≤ 24) × Released l q ⌝ }
     ensures { λ r. ⌜ Estimates (problem l q) (entry r) ⌝ }
 {
     let n = q.jobs;

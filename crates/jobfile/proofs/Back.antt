@@ -86,16 +86,17 @@ module _ (l : Loaded) (q : Ask) (p : Passed (problem l q)) (bound : q .bound ≤
     found : (i : ℕ) → i < q .jobs → Found (recordFields (jobAt l i)) (32 * i) 0 rs
     found i m =
         let d = p .durations i m .1 in
-        fields-found _ (32 * i) 0 rs (passed-conditions (problem l q) p i m, (passed-additions (problem l q) p i m, (passed-deletions (problem l q) p i m, (omega arith, (omega arith, tt))))) (each (q .jobs) s i m)
+        let r = p .releases i m in
+        fields-found _ (32 * i) 0 rs (passed-conditions (problem l q) p i m, (passed-additions (problem l q) p i m, (passed-deletions (problem l q) p i m, (omega arith, (omega arith, (omega arith, tt)))))) (each (q .jobs) s i m)
 
     action-is : (i : ℕ) → i < q .jobs → actionIn rs i ≡ jobAt l i
-    action-is i m = let f = found i m in let first = ap (number 8 rs) (sym (add-zero (32 * i))) ∙ f .0 in λ j. record { conditions = first j; additions = f .1 .0 j; deletions = f .1 .1 .0 j; duration = f .1 .1 .1 .0 j }
+    action-is i m = let f = found i m in let first = ap (number 8 rs) (sym (add-zero (32 * i))) ∙ f .0 in λ j. record { conditions = first j; additions = f .1 .0 j; deletions = f .1 .1 .0 j; duration = f .1 .1 .1 .0 j; release = f .1 .1 .1 .1 .0 j }
 
     clean : T (any (spoilt rs) (q .jobs)) → ⊥
     unfolding spoilt
     clean h =
         let y = any-at (spoilt rs) (q .jobs) h in
-        subst T (sym (any-test 6 rs (32 * y .0 + 26)) ∙ ap (λ (n : ℕ). not (eqb n 0)) (found (y .0) (y .1) .1 .1 .1 .1 .0)) (y .2)
+        subst T (sym (any-test 4 rs (32 * y .0 + 28)) ∙ ap (λ (n : ℕ). not (eqb n 0)) (found (y .0) (y .1) .1 .1 .1 .1 .1 .0)) (y .2)
 
     table-is : (room : ℕ) → tableIn rs (q .jobs) room ≡ kept l (q .jobs) room
     table-is room =

@@ -77,7 +77,7 @@ module _ (file : List ℕ) (room : ℕ) (bytes : Bytes file) (f : Fine file) (ex
   unfolding spoilt
   record-form i l =
       found-fields (recordFields (jobAt (tableOf file room) i)) (32 * i) 0 (recordsIn file) (bytes-take (32 * askOf file .jobs) (drop first file) (bytes-drop first file bytes))
-      (ap (number 8 (recordsIn file)) (add-zero (32 * i)) ∙ ap (λ (a : Action). a .conditions) held, (ap (λ (a : Action). a .additions) held, (ap (λ (a : Action). a .deletions) held, (ap (λ (a : Action). a .duration) held, (zeros, tt)))))
+      (ap (number 8 (recordsIn file)) (add-zero (32 * i)) ∙ ap (λ (a : Action). a .conditions) held, (ap (λ (a : Action). a .additions) held, (ap (λ (a : Action). a .deletions) held, (ap (λ (a : Action). a .duration) held, (ap (λ (a : Action). a .release) held, (zeros, tt))))))
     where
       first : ℕ
       first = trailerAt file - distanceIn (trailerIn file)
@@ -85,10 +85,10 @@ module _ (file : List ℕ) (room : ℕ) (bytes : Bytes file) (f : Fine file) (ex
       held : actionIn (recordsIn file) i ≡ jobAt (tableOf file room) i
       held = sym (filled-at (actionIn (recordsIn file)) (min (askOf file .jobs) 24) (replicate 24 noJob) i noJob (omega (arith, f .count)) (omega (arith, f .count)))
 
-      zeros : number 6 (recordsIn file) (32 * i + 26) ≡ 0
+      zeros : number 4 (recordsIn file) (32 * i + 28) ≡ 0
       zeros =
-          eqb→eq (number 6 (recordsIn file) (32 * i + 26)) 0
-          (certain (eqb (number 6 (recordsIn file) (32 * i + 26)) 0) (λ x. f .clean (any-of (spoilt (recordsIn file)) (askOf file .jobs) i l (subst T (any-test 6 (recordsIn file) (32 * i + 26)) x))))
+          eqb→eq (number 4 (recordsIn file) (32 * i + 28)) 0
+          (certain (eqb (number 4 (recordsIn file) (32 * i + 28)) 0) (λ x. f .clean (any-of (spoilt (recordsIn file)) (askOf file .jobs) i l (subst T (any-test 4 (recordsIn file) (32 * i + 28)) x))))
 
   first-form : (k : ℕ) → k ≤ askOf file .jobs → Stands (recordsOf (tableOf file room) k) 0 (recordsIn file)
   unfolding recordsOf

@@ -3,3 +3,4 @@ pub mod Saves
 pub mod Same
 pub mod Back
 pub mod Form
+pub mod Old

@@ -18,7 +18,7 @@ use Rattle.jobfile.specs.Format.{saveOf, lengthAfter, trailerAt, trailer
 
 -- ── reading ──
 
--- the checks of the records, the last of 2 and 3 to 9: the caller lends `room` records
+-- the checks of the records, the last of 2, then 3 to 9 and 20: the caller lends `room` records
 abbrev pub recordChecks : List ℕ → Ask → (room : ℕ) → Verdict
 recordChecks rs q room = refuseIf (any (spoilt rs) (q .jobs)) 2 0 (callChecks false (q .bound) (tableIn rs (q .jobs) room) q accepted)
 

@@ -14,9 +14,9 @@ use Rattle.bytes_le.specs.Little.{number, fields}
 
 -- ── writing ──
 
--- a record: conditions, additions, deletions (8 bytes each), duration (2), six zeros
+-- a record: conditions, additions, deletions (8 bytes each), duration (2), release (2), four zeros
 abbrev pub recordFields : Action → List (ℕ × ℕ)
-recordFields a = (8, a .conditions) ∷ (8, a .additions) ∷ (8, a .deletions) ∷ (2, a .duration) ∷ (6, 0) ∷ []
+recordFields a = (8, a .conditions) ∷ (8, a .additions) ∷ (8, a .deletions) ∷ (2, a .duration) ∷ (2, a .release) ∷ (4, 0) ∷ []
 
 -- its bytes
 abbrev pub recordOf : Action → List ℕ
@@ -69,9 +69,9 @@ tooFar d n m = ltb d (32 * n) || ltb m d
 abbrev pub recordsIn : List ℕ → List ℕ
 recordsIn file = take (32 * askIn (trailerIn file) .jobs) (drop (trailerAt file - distanceIn (trailerIn file)) file)
 
--- one of the six bytes of record i is not zero
+-- one of the last four bytes of record i is not zero
 unfoldable pub spoilt : List ℕ → ℕ → Bool
-spoilt rs i = any (λ j. not (eqb (getD rs (32 * i + 26 + j) 0) 0)) 6
+spoilt rs i = any (λ j. not (eqb (getD rs (32 * i + 28 + j) 0) 0)) 4
 
 -- record i
 abbrev pub actionIn : List ℕ → ℕ → Action
@@ -80,6 +80,7 @@ actionIn rs i = record {
   additions = number 8 rs (32 * i + 8);
   deletions = number 8 rs (32 * i + 16);
   duration = number 2 rs (32 * i + 24);
+  release = number 2 rs (32 * i + 26);
 }
 
 -- the first n records, as a caller that lends `room` records gets them

@@ -14,12 +14,12 @@ use tables::Answer;
 use tables::Ask;
 use tables::Loaded;
 
-// One of the six bytes of record i is not zero.
+// One of the last four bytes of record i is not zero.
 fn spoilt(records: &[u8], i: usize) -> bool
     requires { ⌜ 32 * i + 32 ≤ length (now records) ⌝ }
     ensures { λ r. ⌜ r ≡ spoilt (now (records .entry)) i ⌝ }
 {
-    number(records, 32 * i + 26, 6) != 0
+    number(records, 32 * i + 28, 4) != 0
 }
 
 // The same of any of the first n records.
@@ -46,6 +46,7 @@ fn action_in(records: &[u8], i: usize) -> Action
         additions: number(records, at + 8, 8),
         deletions: number(records, at + 16, 8),
         duration: number(records, at + 24, 2) as u16,
+        release: number(records, at + 26, 2) as u16,
     }
 }
 

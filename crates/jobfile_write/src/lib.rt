@@ -22,7 +22,8 @@ fn put_record(a: Action, out: &mut [u8])
     put(a.additions, 8, 8, out);
     put(a.deletions, 8, 16, out);
     put(a.duration as u64, 2, 24, out);
-    put(0, 6, 26, out);
+    put(a.release as u64, 2, 26, out);
+    put(0, 4, 28, out);
 }
 
 // The records of the first n jobs, over the first places.

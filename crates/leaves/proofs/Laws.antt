@@ -1,6 +1,7 @@
 -- Laws of settling and of the leaf.
 -- Assumes nothing.
 use mathlib.Core.Path.{_≡_, refl, sym, subst}
+use mathlib.Core.Logic.{⊎-elim}
 use mathlib.Core.Bool.{true, false, true≢false, false≢true}
 use mathlib.Core.List.{List}
 use Prim.Native.Nat.{ℕ, _+_, _-_, _≤_, _<_, _^_}
@@ -10,7 +11,7 @@ use borrow.Author.Tests.{leb-true, leb-false}
 use lib.Bits.{bitAnd}
 use lib.Dec.{T, leb}
 use Rattle.facts.specs.Facts.{has}
-use Rattle.facts.proofs.Bools.{and-of}
+use Rattle.facts.proofs.Bools.{and-of, below-suc}
 use Rattle.facts.proofs.Lists.{getD-past}
 use Rattle.facts.proofs.Sets.{has-and}
 use Rattle.facts.proofs.Walks.{Done, done-all}
@@ -18,12 +19,12 @@ use Rattle.rules.specs.Plans.{Plan}
 use Rattle.rules.specs.Supports.{Support, Who, task, goal}
 use Rattle.rules.proofs.Sums.{sum-more}
 use Rattle.states.specs.State.{Search, Left, Dead, More, Flawless, Timed, NeedsFact, there, Safe, Ahead}
-use Rattle.cells.specs.View.{sures, ins, los, wordAt, view, Puts, From}
-use Rattle.cells.proofs.Changes.{none, says, new-word}
-use Rattle.lent.specs.Lent.{stepOf, Lent}
+use Rattle.cells.specs.View.{sures, ins, los, wordAt, view, Prunes, Puts, From}
+use Rattle.cells.proofs.Changes.{none, says, then, new-word}
+use Rattle.lent.specs.Lent.{stepOf, estOf, Lent}
 use Rattle.lent.specs.Consumers.{NoFlaw}
 use Rattle.lent.proofs.Consumers.{who-job}
-use Rattle.leaves.specs.Leaf.{Violated, RowSteady, ViolatedRow, room, Raised, InPlace, AllInPlace, Verifies, StartsOf, planOf, Resolves, LeafOk}
+use Rattle.leaves.specs.Leaf.{Violated, RowSteady, ViolatedRow, NoneEarly, BeginsAt, BegunBy, room, Raised, InPlace, AllInPlace, Verifies, StartsOf, planOf, Resolves, LeafOk}
 use Rattle.states.proofs.Rules as rules
 use Rattle.states.proofs.Leaf as leaf
 
@@ -35,6 +36,31 @@ late-none h = record { here = λ l. absurd (omega arith); none = λ l. h }
 -- whoever is violated with b is in b's row and inside
 pub row-done : {s L : List ℕ} {b w : ℕ} → Done (λ a. Violated s L a b → ⊥) (bitAnd (wordAt s (sures b)) (wordAt s ins)) w → w ≡ 0 → ViolatedRow s L b 24
 row-done {s} {L} {b} d e = late-none (λ a v. done-all d e a (subst T (sym (has-and (wordAt s (sures b)) (wordAt s ins) a)) (and-of (has (wordAt s (sures b)) a) _ (v .order) (v .inside))) v)
+
+-- ── from the estimates on ──
+
+-- no valid plan starts the job before its estimate
+pub begins-at : {s r L : List ℕ} {j x : ℕ} → x ≡ estOf L j → Puts (From j x) (los j) x s r → BeginsAt L s r j
+begins-at {j = j} e d = record {
+  prunes = says d (λ P wf t Q l i. omega (arith, t .listed .early (P .bound) Q (l .first .ok) j i));
+  here = omega (arith, new-word d);
+}
+
+pub begins-already : {s L : List ℕ} {j : ℕ} → estOf L j ≤ view s .lo j → BeginsAt L s s j
+begins-already h = record { prunes = none; here = h }
+
+-- lower bounds never fall
+begun-on : (s r L : List ℕ) (n : ℕ) → NoneEarly s L n → More (view s) (view r) → NoneEarly r L n
+begun-on s r L n b m j l = omega (arith, b j l, m .lo j)
+
+pub begun-more : {s t r L : List ℕ} {n : ℕ} → BegunBy L s t n → Prunes (Lent L) t r → BegunBy L s r n
+begun-more {t = t} {r = r} {L = L} {n = n} b p = record { prunes = then (b .prunes) p; begun = begun-on t r L n (b .begun) (p .more) }
+
+pub begun-next : {s t r L : List ℕ} {j : ℕ} → BegunBy L s t j → BeginsAt L t r j → BegunBy L s r (j + 1)
+begun-next {t = t} {r = r} {L = L} {j = j} b h = record {
+  prunes = then (b .prunes) (h .prunes);
+  begun = λ i l. ⊎-elim (λ m. begun-on t r L j (b .begun) (h .prunes .more) i m) (λ e. rw e (h .here)) (below-suc i j (omega arith));
+}
 
 -- a lower bound that rises makes the room smaller
 room-falls : (s r : List ℕ) (b : ℕ) → More (view s) (view r) → b < 24 → view s .lo b < view r .lo b → view r .lo b < 2 ^ 32 → room r < room s
@@ -130,7 +156,7 @@ module _ {s L q : List ℕ} (ok : LeafOk s L) (ns : (j : ℕ) → T (has (wordAt
       runs = record { from = λ j i. omega (arith, at j i); order = order };
       upto = λ j i. omega (arith, at j i, stands j i .window);
       ends = λ j i. omega (arith, at j i, stands j i .ends, l .listed .steps j (ns j i), l .listed .gap, l .bound);
-      released = λ j i. omega (arith, l .listed .release j);
+      released = λ j i. omega (arith, at j i, ok .begun j (ns j i), l .listed .release j (below j i));
       out = off;
     }
 

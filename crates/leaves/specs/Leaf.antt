@@ -10,7 +10,7 @@ use Rattle.rules.specs.Plans.{Plan}
 use Rattle.rules.specs.Sums.{sum}
 use Rattle.states.specs.State.{Search, Dead, PlanIn}
 use Rattle.cells.specs.View.{view, Prunes}
-use Rattle.lent.specs.Lent.{stepOf, countOf, boundOf, Lent}
+use Rattle.lent.specs.Lent.{stepOf, estOf, countOf, boundOf, Lent}
 use Rattle.lent.specs.Consumers.{NoFlaw}
 use Rattle.leaves.specs.declared.Pair.{Pair}
 
@@ -41,6 +41,20 @@ pub record Finds (s L : List ℕ) (c : Pair) : Type 0 where
   pub here : c .first < 24 → Violated s L (c .first) (c .second)
   pub none : 24 ≤ c .first → Steady s L
 
+-- no job of the first n may start before its estimate
+abbrev pub NoneEarly : (s L : List ℕ) (n : ℕ) → Type 0
+NoneEarly s L n = (j : ℕ) → j < n → estOf L j ≤ view s .lo j
+
+-- the lower bound of job j was raised to its estimate
+pub record BeginsAt (L s r : List ℕ) (j : ℕ) : Type 0 where
+  pub prunes : Prunes (Lent L) s r
+  pub here : estOf L j ≤ view r .lo j
+
+-- the lower bounds of the first n jobs were raised to their estimates
+pub record BegunBy (L s r : List ℕ) (n : ℕ) : Type 0 where
+  pub prunes : Prunes (Lent L) s r
+  pub begun : NoneEarly r L n
+
 -- the room that lower bounds have
 unfoldable pub room : List ℕ → ℕ
 room s = sum (λ j. 2 ^ 32 - view s .lo j) 24
@@ -51,9 +65,10 @@ pub record Raised (L s r : List ℕ) (ok : Bool) : Type 0 where
   pub less : ok ≡ true → room r < room s
   pub dead : ok ≡ false → (P : Search) → Lent L P → Dead P (view r)
 
--- the lower bounds are settled, or no plan is left
+-- the lower bounds are settled from the estimates on, or no plan is left
 pub record AtRest (L s : List ℕ) (ok : Bool) : Type 0 where
   pub steady : ok ≡ true → Steady s L
+  pub begun : ok ≡ true → NoneEarly s L 24
   pub dead : ok ≡ false → (P : Search) → Lent L P → Dead P (view s)
 
 -- the lower bounds were raised until they are settled, or no plan is left
@@ -102,7 +117,8 @@ pub record Resolves (Ok : Search → Type 0) (s old new : List ℕ) (found : Boo
   pub none : found ≡ false → (P : Search) → Ok P → Dead P (view s)
   pub same : found ≡ false → new ≡ old
 
--- the state is a plan: its lower bounds are settled, and it has no flaw
+-- the state is a plan: its lower bounds are settled from the estimates on, and it has no flaw
 pub record LeafOk (s L : List ℕ) : Type 0 where
   pub steady : Steady s L
+  pub begun : NoneEarly s L 24
   pub whole : (P : Search) → Lent L P → NoFlaw P s L

@@ -7,7 +7,7 @@ ghost use Rattle.facts.specs.Facts.{has};
 ghost use Rattle.facts.specs.Words.{Decides};
 ghost use Rattle.cells.specs.View.{view};
 ghost use Rattle.lent.specs.Lent.{Lent};
-ghost use Rattle.leaves.specs.Leaf.{Violated, ViolatedRow, Finds, Raised, SettledBy, InPlaceIf, AllInPlace, Verifies, StartIs, StartsOf, Resolves, LeafOk};
+ghost use Rattle.leaves.specs.Leaf.{Violated, ViolatedRow, Finds, BeginsAt, BegunBy, Raised, SettledBy, InPlaceIf, AllInPlace, Verifies, StartIs, StartsOf, Resolves, LeafOk};
 use cells::State;
 use lent::Tables;
 
@@ -90,10 +90,31 @@ fn raise(s: &mut State, a: usize, b: usize, t: &Tables) -> bool
     true
 }
 
-// The least starts over the sure pairs, as lower bounds; or no plan is left.
+// Job j starts no earlier than its estimate.
+fn begin(s: &mut State, j: usize, t: &Tables)
+    requires { ⌜ j < 24 ⌝ }
+    ensures { λ _. ⌜ BeginsAt (now (t .entry)) (now (s .entry)) (now (s .exit)) j ⌝ }
+{
+    let x = lent::est(t, j);
+    if cells::lo(s, j) < x {
+        cells::put_lo(s, j, x);
+    }
+}
+
+// The same of all jobs.
+fn begin_all(s: &mut State, t: &Tables)
+    ensures { λ _. ⌜ BegunBy (now (t .entry)) (now (s .entry)) (now (s .exit)) 24 ⌝ }
+{
+    for j in 0..24 {
+        begin(s, j, t);
+    }
+}
+
+// The least starts over the sure pairs, from the estimates on, as lower bounds; or no plan is left.
 pub fn settle(s: &mut State, t: &Tables) -> bool
     ensures { λ r. ⌜ SettledBy (now (t .entry)) (now (s .entry)) (now (s .exit)) r ⌝ }
 {
+    begin_all(s, t);
     loop {
         let c = violated(s, t);
         if 24 <= c.first {

@@ -33,7 +33,7 @@ rebound same P t = record {
   });
   leads = λ a l. rw (same (a + 828) (λ e. omega arith)) (t .leads a l);
   gap = t .gap;
-  release = t .release;
+  release = λ j l. rw (same (j + 202) (λ e. omega (arith, t .few))) (t .release j l);
 }
 
 -- what the table has of two jobs is their wait

@@ -81,7 +81,7 @@ pub record Spacing (P : Problem) (a : ℕ) (x : ℕ → ℕ) : Type 0 where
   pub starts : (bound : ℕ) (Q : Plan) → Valid P bound Q → In P Q a → (b : ℕ) → In P Q b → Over P Q a b → Q a + x b ≤ Q b
   pub ends : (bound : ℕ) (Q : Plan) → Valid P bound Q → In P Q a → Q a + x 24 ≤ bound
 
--- all but the bound is the problem's; no gap and no releases here
+-- all but the bound is the problem's; there is no gap, and no job begins before its release
 pub record Listed (L : List ℕ) (P : Problem) : Type 0 where
   pub wf : InOrder P
   pub few : P .count ≤ 24
@@ -98,7 +98,7 @@ pub record Listed (L : List ℕ) (P : Problem) : Type 0 where
   pub apart : (a : ℕ) → a < P .count → Spacing P a (waitOf L a)
   pub leads : (a : ℕ) → a < 24 → ledOf L a < 24 → (bound : ℕ) → Leads (record { problem = P; bound = bound }) a (ledOf L a)
   pub gap : P .gap ≡ 0
-  pub release : (j : ℕ) → P .release j ≡ 0
+  pub release : (j : ℕ) → j < P .count → P .release j ≤ estOf L j
 
 -- so is the bound, which is no mark
 pub record Lent (L : List ℕ) (P : Search) : Type 0 where

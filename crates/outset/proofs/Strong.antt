@@ -1,22 +1,25 @@
 -- What is searched for a table: the table with e-deletions, which has the same plans.
 -- Assumes nothing.
-use mathlib.Core.Path.{_≡_, refl, sym, subst}
+use mathlib.Core.Path.{_≡_, refl, sym, ap, subst}
 use mathlib.Core.Logic.{inl, _↔_}
 use mathlib.Core.Bool.{Bool}
 use mathlib.Core.List.{List}
 use Prim.Native.Nat.{ℕ, _+_, _≤_, _<_}
 use native.Mathlib.Omega.{arith}
+use native.Mathlib.Decide.{decLe}
 use lib.ListN.{getD}
 use Rattle.facts.specs.Words.{Decides}
-use Rattle.rules.specs.Table.{Problem, plain}
+use Rattle.rules.specs.Table.{Problem}
 use Rattle.rules.specs.Premises.{InOrder}
 use Rattle.rules.specs.Plans.{Plan, In, Valid}
 use Rattle.rules.specs.Order.{First, NoPlan}
 use Rattle.rules.specs.Estimates.{Estimates}
-use Rattle.rules.proofs.Early.{never-early}
+use Rattle.rules.proofs.Early.{dearest-release, never-early}
+use Rattle.tables.specs.declared.Action.{Action}
 use Rattle.tables.specs.declared.Loaded.{Loaded}
 use Rattle.tables.specs.declared.Ask.{Ask}
 use Rattle.tables.specs.Tables.{jobAt, problem}
+use Rattle.tables.specs.Steps.{Released}
 use Rattle.entries.specs.Entries.{entry}
 use Rattle.reach.specs.Reach.{Closed, Exact, strong, EWords}
 use Rattle.reach.specs.Rows.{inRows, FitIn, deleting, EDone}
@@ -41,8 +44,8 @@ module _ (k : Loaded) (q : Ask) (few : q .jobs ≤ 24) (ok : InOrder (problem k 
   begins : (i : ℕ) → i < 24 → estOf L i ≡ getD est i 0
   begins i l = rw (add-sub-cancel i 202) at (t (i + 202) (omega arith) .there (omega arith) .there (omega arith) .there (omega arith) .there (omega arith) .there (omega arith) .there (omega arith) .there (omega arith) .here (omega arith))
 
-  pub listed-of : ((bound : ℕ) (Q : Plan) → Valid (problem k q) bound Q → (i : ℕ) → In (problem k q) Q i → getD est i 0 ≤ Q i) → ((a : ℕ) → a < q .jobs → Spacing (problem k q) a (waitOf L a)) → ((a : ℕ) → a < 24 → ledOf L a < 24 → (bound : ℕ) → Leads (record { problem = problem k q; bound = bound }) a (ledOf L a)) → Listed L (problem k q)
-  listed-of early apart leads = record {
+  pub listed-of : ((bound : ℕ) (Q : Plan) → Valid (problem k q) bound Q → (i : ℕ) → In (problem k q) Q i → getD est i 0 ≤ Q i) → ((i : ℕ) → i < q .jobs → jobAt k i .release ≤ getD est i 0) → ((a : ℕ) → a < q .jobs → Spacing (problem k q) a (waitOf L a)) → ((a : ℕ) → a < 24 → ledOf L a < 24 → (bound : ℕ) → Leads (record { problem = problem k q; bound = bound }) a (ledOf L a)) → Listed L (problem k q)
+  listed-of early held apart leads = record {
     wf = ok;
     few = few;
     count = omega (arith, t 226 (omega arith) .there (omega arith) .there (omega arith) .there (omega arith) .there (omega arith) .there (omega arith) .there (omega arith) .there (omega arith) .there (omega arith));
@@ -58,7 +61,7 @@ module _ (k : Loaded) (q : Ask) (few : q .jobs ≤ 24) (ok : InOrder (problem k 
     apart = apart;
     leads = leads;
     gap = refl;
-    release = λ i. refl;
+    release = λ i h. omega (arith, begins i (omega arith), held i h);
   }
 
 -- ── the table with e-deletions ──
@@ -80,7 +83,18 @@ module _ (l : Loaded) (q : Ask) (ok : InOrder (problem l q)) (rows : List ℕ) (
   rest = edone-rest rows l (q .jobs) k d
 
   is-strong : K ≡ strong P D
-  is-strong = λ t. plain (q .jobs) (λ i. rest i t .conditions) (λ i. rest i t .additions) D (λ i. rest i t .duration) (q .atoms) (q .opening) (q .goals)
+  is-strong = λ t. record {
+    count = q .jobs;
+    conditions = λ i. rest i t .conditions;
+    additions = λ i. rest i t .additions;
+    deletions = D;
+    duration = λ i. rest i t .duration;
+    release = λ i. rest i t .release;
+    gap = 0;
+    atoms = q .atoms;
+    opening = q .opening;
+    goals = q .goals;
+  }
 
   strong-order : InOrder (strong P D)
   strong-order = strong-ok P ok (inRows rows) x D words
@@ -111,18 +125,32 @@ module _ (l : Loaded) (q : Ask) (ok : InOrder (problem l q)) (rows : List ℕ) (
     order = λ F f i. h ok bound .order F (first-same bound F f) (record { below = i .below; chosen = i .chosen });
   }
 
-  pub sets-out : (base est L M N : List ℕ) (goals : Bool) → q .jobs ≤ 24 → Estimates K (entry base) → AllWait rows k base est 24 → Lists k q est L 228 → WaitsPut K (q .jobs) L M
+  -- no release is over 2,880
+  pub released : Released l q → Released k q
+  released r i h = omega (arith, ap (λ (a : Action). a .release) (rest i), r i h)
+
+  pub sets-out : (base est L M N : List ℕ) (goals : Bool) → q .jobs ≤ 24 → Released l q → Estimates K (entry base) → AllWait rows k base est 24 → Lists k q est L 228 → WaitsPut K (q .jobs) L M
       → LeadsPut l q 24 M N → Decides goals (FitIn rows (q .goals) 64) → SetsOut l q (record { tables = N; goals = goals })
-  sets-out base est L M N goals few e w t p f g = record {
+  sets-out base est L M N goals few r e w t p f g = record {
     searched = K;
     jobs = refl;
-    listed = listed-of k q few order est N (λ i h. subst (λ (x : ℕ). Stands k q est i x) (sym (waits .old i h)) (t i h)) early (waits .apart order) (λ a h m. leads-same a (ledOf N a) (f .leads a h m));
+    listed = listed-of k q few order est N (λ i h. subst (λ (x : ℕ). Stands k q est i x) (sym (waits .old i h)) (t i h)) early held (waits .apart order) (λ a h m. leads-same a (ledOf N a) (f .leads a h m));
     same = same-plans;
     hopeless = λ h bound. together bound (g .nay h);
   }
     where
       waits : WaitsPut K (q .jobs) L N
       waits = waits-old K few L few p (f .old)
+
+      -- an estimate is no less than the release, and so is 65,535
+      held : (i : ℕ) → i < q .jobs → jobAt k i .release ≤ getD est i 0
+      held i h = go (decLe (jobAt k i .release) (getD est i 0))
+        where
+          go : Dec (jobAt k i .release ≤ getD est i 0) → jobAt k i .release ≤ getD est i 0
+          go (yes y) = y
+          go (no n) =
+              let late : FitIn rows (jobAt k i .conditions) 64 → ⊥ = λ fits. omega (arith, w i (omega arith) .fit fits, e i h, dearest-release K (entry base) i 64) in
+              omega (arith, w i (omega arith) .unfit late, released r i h)
 
       -- the conditions of a job of the plan are pairwise reachable, so it waits for its estimate
       early : (bound : ℕ) (Q : Plan) → Valid K bound Q → (i : ℕ) → In K Q i → getD est i 0 ≤ Q i

@@ -4,6 +4,7 @@ ghost use Prim.Native.Nat.{_≤_, _<_};
 ghost use Rattle.facts.specs.Words.{Decides};
 ghost use Rattle.rules.specs.Premises.{InOrder};
 ghost use Rattle.tables.specs.Tables.{problem};
+ghost use Rattle.tables.specs.Steps.{Released};
 ghost use Rattle.states.specs.State.{Search};
 ghost use Rattle.cells.specs.View.{Says};
 ghost use Rattle.lent.specs.Lent.{Cols, Lent};
@@ -140,8 +141,9 @@ fn put_waits(t: &mut Tables, l: Loaded, q: Ask)
     ensures { λ _. ⌜ WaitsPut (problem l q) (q .jobs) (now (t .entry)) (now (t .exit)) ⌝ }
 {
     let n = q.jobs;
+    let free = distances::freed(l);
     for a in 0..n {
-        let row = distances::row(l, q, a);
+        let row = distances::row(free, q, a);
         put_row(t, a, row);
     }
 }
@@ -221,7 +223,7 @@ fn all_wait(s: PairRows, l: Loaded, est: [u16; 24]) -> [u16; 24]
 
 // What is searched for the table: it has the same plans.
 pub fn set_out(l: Loaded, q: Ask) -> Outset
-    requires { ⌜ (q .jobs ≤ 24) × InOrder (problem l q) ⌝ }
+    requires { ⌜ (q .jobs ≤ 24) × InOrder (problem l q) × Released l q ⌝ }
     ensures { λ r. ⌜ SetsOut l q r ⌝ }
 {
     let s = reach::reachable(l, q);

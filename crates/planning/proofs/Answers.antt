@@ -1,6 +1,6 @@
 -- What planning answers, from what the search found.
 -- Assumes nothing.
-use mathlib.Core.Path.{_≡_, refl, sym, _∙_, subst}
+use mathlib.Core.Path.{_≡_, refl, _∙_, subst}
 use mathlib.Core.Logic.{inl, inr, _≢_}
 use mathlib.Core.Bool.{Bool, true}
 use mathlib.Core.List.{List}
@@ -13,7 +13,7 @@ use Rattle.refusals.specs.Refusals.{accepted, refused}
 use Rattle.rules.specs.Premises.{InOrder}
 use Rattle.rules.specs.Plans.{Plan}
 use Rattle.rules.specs.Order.{First, LeastBound, NoPlan}
-use Rattle.rules.specs.Sums.{sum}
+use Rattle.rules.specs.Sums.{sum, most}
 use Rattle.rules.proofs.Enough.{enough, enough-first}
 use Rattle.tables.specs.declared.Loaded.{Loaded}
 use Rattle.tables.specs.declared.Ask.{Ask}
@@ -30,22 +30,19 @@ use Rattle.planning.specs.Planning.{planningChecks, PlansWithin, BoundsW
 
 -- ── enough time ──
 
--- the bound, or the sum of all durations where that is less
+-- the bound, or the latest release and all durations where that is less
 abbrev pub top : Loaded → Ask → ℕ
-top l q = min (q .bound) (sum (λ a. jobAt l a .duration + 0) (q .jobs))
+top l q = min (q .bound) (most (λ a. jobAt l a .release) (q .jobs) + sum (λ a. jobAt l a .duration + 0) (q .jobs))
 
 module _ (l : Loaded) (q : Ask) (ok : InOrder (problem l q)) (short : q .bound ≤ 2880) where
-  same-top : min (q .bound) (0 + sum (λ a. jobAt l a .duration + 0) (q .jobs)) ≡ top l q
-  same-top = omega arith
-
   -- the first plan within enough time is the first within the bound
   pub first-up : (s : Plan) → First (problem l q) (top l q) s → First (problem l q) (q .bound) s
-  first-up s f = enough-first (problem l q) ok 0 (λ i h. omega arith) (q .bound) (omega arith) s .1 (subst (λ (b : ℕ). First (problem l q) b s) (sym same-top) f)
+  first-up s f = enough-first (problem l q) ok (q .bound) (omega arith) s .1 f
 
   pub none-up : NoPlan (problem l q) (top l q) → NoPlan (problem l q) (q .bound)
   none-up n z v =
-      let r = enough (problem l q) ok 0 (λ i h. omega arith) (q .bound) (omega arith) z v in
-      subst (λ (b : ℕ). NoPlan (problem l q) b) (sym same-top) n (r .0) (r .1 .valid)
+      let r = enough (problem l q) ok (q .bound) (omega arith) z v in
+      n (r .0) (r .1 .valid)
 
   pub least-up : (b : ℕ) (s : Plan) → LeastBound (problem l q) (top l q) b s → LeastBound (problem l q) (q .bound) b s
   least-up b s f = record { within = omega (arith, f .within); first = f .first; none = f .none }
@@ -67,7 +64,7 @@ module _ (l : Loaded) (q : Ask) (old : List ℕ) {f : Answer}
 
     -- the checks give what the search asks for
     pub in-reach : InReach l q t
-    in-reach = record { few = ok .few; order = ok .order; short = omega (arith, h, ok .within) }
+    in-reach = record { few = ok .few; order = ok .order; released = ok .released; short = omega (arith, h, ok .within) }
 
     -- a starting table filled with the starts found
     starts-filled : (st : List ℕ) {new : List ℕ} → length st ≡ 24 → new ≡ filled (entry st) (q .jobs) old → new ≡ filled (planOf st) (q .jobs) old

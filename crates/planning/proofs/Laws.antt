@@ -3,14 +3,14 @@
 use mathlib.Core.Path.{_≡_, refl, sym, ap, subst}
 use mathlib.Core.Bool.{Bool, true, false, true≢false}
 use mathlib.Core.List.{List}
-use Prim.Native.Nat.{ℕ, _+_, _≤_, _<_}
+use Prim.Native.Nat.{ℕ, _+_, _≤_, _<_, max}
 use native.Mathlib.Omega.{arith}
 use native.Mathlib.Numerals.{add-one}
 use lib.Dec.{T}
 use Rattle.rules.specs.Table.{Problem}
 use Rattle.rules.specs.Plans.{Plan, Valid}
 use Rattle.rules.specs.Order.{First, LeastBound, NoPlan}
-use Rattle.rules.specs.Sums.{sum}
+use Rattle.rules.specs.Sums.{sum, most}
 use Rattle.tables.specs.Tables.{problem}
 use Rattle.tables.specs.declared.Loaded.{Loaded}
 use Rattle.tables.specs.declared.Ask.{Ask}
@@ -79,6 +79,10 @@ module _ {l : Loaded} {q : Ask} {o : Outset} (x : SetsOut l q o) where
 pub sum-next : (f : ℕ → ℕ) (j : ℕ) → f j + sum f j ≡ sum f (j + 1)
 unfolding sum
 sum-next f j = ap (λ (n : ℕ). sum f n) (sym (add-one j))
+
+pub most-next : (f : ℕ → ℕ) (j : ℕ) → max (f j) (most f j) ≡ most f (j + 1)
+unfolding most
+most-next f j = ap (most f) (sym (add-one j))
 
 -- the least bound with the first plan at it
 pub least-found : {L starts best : List ℕ} {top b : ℕ} → Bracketed L b b starts → b ≤ top → top < 65535 → FirstAt L b best → (P : Problem) → Listed L P → LeastOf P top best b

@@ -10,6 +10,7 @@ use Rattle.rules.specs.Table.{Problem}
 use Rattle.rules.specs.Premises.{InOrder}
 use Rattle.rules.specs.Order.{First, LeastBound, NoPlan}
 use Rattle.tables.specs.Tables.{problem}
+use Rattle.tables.specs.Steps.{Released}
 use Rattle.tables.specs.declared.Loaded.{Loaded}
 use Rattle.tables.specs.declared.Ask.{Ask}
 use Rattle.lent.specs.Lent.{Listed}
@@ -19,6 +20,7 @@ use Rattle.leaves.specs.Leaf.{planOf}
 pub record InReach (l : Loaded) (q : Ask) (bound : ℕ) : Type 0 where
   pub few : q .jobs ≤ 24
   pub order : InOrder (problem l q)
+  pub released : Released l q
   pub short : bound < 65535
 
 -- the first plan, or that there is none

@@ -2,7 +2,7 @@
 ghost use mathlib.Core.Path.{_≡_};
 ghost use Prim.Native.Nat.{_+_, _≤_, min};
 ghost use Rattle.rules.specs.Table.{Problem};
-ghost use Rattle.rules.specs.Sums.{sum};
+ghost use Rattle.rules.specs.Sums.{sum, most};
 ghost use Rattle.tables.specs.Tables.{jobAt, problem};
 ghost use Rattle.lent.specs.Lent.{Listed};
 ghost use Rattle.bounds.specs.Bounds.{Served, SomeAt};
@@ -23,12 +23,25 @@ fn first_at(t: &mut Tables, bound: u16, out: &mut [u16; 24])
     planner::first(&mut s, t, out);
 }
 
-// The sum of the durations of the jobs below n.
-fn all_durations(l: Loaded, n: usize) -> u32
+// The latest release of the jobs below n.
+fn last_release(l: Loaded, n: usize) -> u16
     requires { ⌜ n ≤ 24 ⌝ }
-    ensures { λ r. ⌜ r ≡ sum (λ a. jobAt l a .duration + 0) n ⌝ }
+    ensures { λ r. ⌜ r ≡ most (λ a. jobAt l a .release) n ⌝ }
 {
-    let mut all: u32 = 0;
+    let mut last: u16 = 0;
+    for j in 0..n {
+        let a = l.jobs[j];
+        last = entries::higher(a.release, last);
+    }
+    last
+}
+
+// The time `from` and the durations of the jobs below n.
+fn all_durations(l: Loaded, n: usize, from: u16) -> u32
+    requires { ⌜ n ≤ 24 ⌝ }
+    ensures { λ r. ⌜ r ≡ from + sum (λ a. jobAt l a .duration + 0) n ⌝ }
+{
+    let mut all = entries::wide(from);
     for j in 0..n {
         let a = l.jobs[j];
         all = all + entries::wide(a.duration);
@@ -36,12 +49,12 @@ fn all_durations(l: Loaded, n: usize) -> u32
     all
 }
 
-// The bound, or the sum of all durations where that is less: more time changes nothing.
+// The bound, or the latest release and all durations where that is less: more time changes nothing.
 fn enough(l: Loaded, q: Ask) -> u16
     requires { ⌜ q .jobs ≤ 24 ⌝ }
-    ensures { λ r. ⌜ r ≡ min (q .bound) (sum (λ a. jobAt l a .duration + 0) (q .jobs)) ⌝ }
+    ensures { λ r. ⌜ r ≡ min (q .bound) (most (λ a. jobAt l a .release) (q .jobs) + sum (λ a. jobAt l a .duration + 0) (q .jobs)) ⌝ }
 {
-    let all = all_durations(l, q.jobs);
+    let all = all_durations(l, q.jobs, last_release(l, q.jobs));
     let bound = q.bound;
     if all < entries::wide(bound) {
         return all as u16;

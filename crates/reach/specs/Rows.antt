@@ -96,7 +96,7 @@ Gone rows c a d p = T (has d p) ⊎ (FitIn rows c 64 × (Barred rows a p ⊎ (Ba
 
 -- a job with other deletions
 abbrev pub deleting : Action → ℕ → Action
-deleting a w = record { conditions = a .conditions; additions = a .additions; deletions = w; duration = a .duration }
+deleting a w = record { conditions = a .conditions; additions = a .additions; deletions = w; duration = a .duration; release = a .release }
 
 -- b is the job a, but deletes what a takes away
 pub record EJob (rows : List ℕ) (a b : Action) : Type 0 where

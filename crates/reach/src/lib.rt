@@ -196,6 +196,7 @@ fn e_job(s: PairRows, a: Action) -> Action
         additions: a.additions,
         deletions: union(a.deletions, union(adding, needing)),
         duration: a.duration,
+        release: a.release,
     }
 }
 

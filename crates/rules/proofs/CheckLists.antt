@@ -6,15 +6,16 @@ use native.Mathlib.Omega.{arith}
 use lib.Dec.{ltb}
 use Rattle.rules.specs.Table.{Problem, between, strays, jobStrays, undoes, jobChecks, tableChecks, boundCheck}
 use Rattle.rules.specs.Plans.{Plan}
-use Rattle.rules.specs.Verdicts.{late, clashes, unready, missing, planChecks}
+use Rattle.rules.specs.Verdicts.{late, early, clashes, unready, missing, planChecks}
 use Rattle.refusals.proofs.Refused.{Checks, at-checks, if-checks, then-checks}
 
 pub job-checks : (P : Problem) → Checks (jobChecks P)
 unfolding jobChecks
 job-checks P =
     then-checks (at-checks (λ i. not (between 1 960 (P .duration i))) (P .count) 6 (omega arith))
+    (then-checks (at-checks (λ i. ltb 2880 (P .release i)) (P .count) 20 (omega arith))
     (then-checks (at-checks (jobStrays P) (P .count) 7 (omega arith))
-    (then-checks (if-checks (strays (P .atoms) (P .opening) || strays (P .atoms) (P .goals)) 7 24 (omega arith)) (at-checks (undoes P) (P .count) 8 (omega arith))))
+    (then-checks (if-checks (strays (P .atoms) (P .opening) || strays (P .atoms) (P .goals)) 7 24 (omega arith)) (at-checks (undoes P) (P .count) 8 (omega arith)))))
 
 pub table-checks : (P : Problem) → Checks (tableChecks P)
 unfolding tableChecks
@@ -29,5 +30,6 @@ pub plan-checks : (P : Problem) (bound : ℕ) (s : Plan) → Checks (planChecks 
 unfolding planChecks
 plan-checks P bound s =
     then-checks (at-checks (late P bound s) (P .count) 11 (omega arith))
+    (then-checks (at-checks (early P s) (P .count) 21 (omega arith))
     (then-checks (at-checks (clashes P s) (P .count) 12 (omega arith))
-    (then-checks (at-checks (unready P s) (P .count) 13 (omega arith)) (at-checks (missing P bound s) 64 14 (omega arith))))
+    (then-checks (at-checks (unready P s) (P .count) 13 (omega arith)) (at-checks (missing P bound s) 64 14 (omega arith)))))

@@ -1,15 +1,15 @@
 -- In a table of 01 a plan is valid exactly by 01's four sentences.
 -- Assumes nothing.
-use mathlib.Core.Path.{_≡_, refl, sym, ap, subst}
+use mathlib.Core.Path.{_≡_, sym, ap, subst}
 use mathlib.Core.Logic.{_⊎_, inl, inr, _↔_}
-use Prim.Native.Nat.{ℕ, _-_, _≤_}
+use Prim.Native.Nat.{ℕ, _-_, _≤_, _<_}
 use native.Mathlib.Omega.{arith}
 use lib.Dec.{T}
-use Rattle.rules.specs.Table.{Problem, plain}
+use Rattle.rules.specs.Table.{Problem}
 use Rattle.rules.specs.Plans.{Plan, finish, Over, holds, Valid}
 use Rattle.rules.specs.Scope.{Valid01}
 
-module _ (P : Problem) (none : (i : ℕ) → P .release i ≡ 0) (touching : P .gap ≡ 0) (bound : ℕ) (s : Plan) where
+module _ (P : Problem) (none : (i : ℕ) → i < P .count → P .release i ≡ 0) (touching : P .gap ≡ 0) (bound : ℕ) (s : Plan) where
   at-once : (t p : ℕ) → holds P s p (t - P .gap) ≡ holds P s p t
   at-once t p = let e : t - P .gap ≡ t = omega (arith, touching) in ap (holds P s p) e
 
@@ -32,14 +32,9 @@ module _ (P : Problem) (none : (i : ℕ) → P .release i ≡ 0) (touching : P .
     },
     λ v. record {
       inside = v .inside;
-      released = λ i k. omega (arith, none i);
+      released = λ i k. omega (arith, none i (k .below));
       apart = λ i j k m h. over i j (v .apart i j k m h);
       ready = λ i p k n. subst T (sym (at-once (s i) p)) (v .ready i p k n);
       reached = v .reached;
     },
   )
-
--- so of every problem that a call is asked with
-pub plain-01 : (count : ℕ) (conditions additions deletions duration : ℕ → ℕ) (atoms opening goals bound : ℕ) (s : Plan)
-    → Valid (plain count conditions additions deletions duration atoms opening goals) bound s ↔ Valid01 (plain count conditions additions deletions duration atoms opening goals) bound s
-plain-01 n c a d t m o g bound s = valid-01 (plain n c a d t m o g) (λ i. refl) refl bound s

@@ -81,7 +81,7 @@ repair-cases c P l Q = go (ℕ-discrete (c .kind) 2)
 
 module _ {L s t : List ℕ} (p : Prunes (Lent L) s t) where
   pub settled-dead : ((P : Search) → Dead P (view t)) → SettledBy L s t false
-  settled-dead d = record { prunes = p; rest = record { steady = λ e. absurd (false≢true e); dead = λ e P l. d P } }
+  settled-dead d = record { prunes = p; rest = record { steady = λ e. absurd (false≢true e); begun = λ e. absurd (false≢true e); dead = λ e P l. d P } }
 
   pub settled-on : {r : List ℕ} {ok : Bool} → SettledBy L t r ok → SettledBy L s r ok
   settled-on d = record { prunes = then p (d .prunes); rest = d .rest }

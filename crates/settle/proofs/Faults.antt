@@ -73,7 +73,7 @@ module _ (l : Loaded) (q : Ask) (bytes : List ℕ) (room : ℕ) where
   judged : {r : Answer} → r ≡ answerOf (settlingChecks l q bytes room accepted) 0 0 → Judges (settlingChecks l q bytes room accepted) (Settleable l q bytes room) r
   judged e = record { says = e; order = λ z. settleable (accepts-by all-checks e z) }
 
-  -- behind the answer of checks 3 to 9
+  -- behind the answer of checks 3 to 9 and 20
   module _ {s : Bool} {f : Answer} (is : s ≡ short) (j : Judges (callChecks s (q .bound) l q accepted) (Cleared s (q .bound) l q) f) where
     told : f ≡ answerOf (callChecks short (q .bound) l q accepted) 0 0
     told = subst (λ (b : Bool). f ≡ answerOf (callChecks b (q .bound) l q accepted) 0 0) is (j .says)

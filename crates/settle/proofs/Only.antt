@@ -40,9 +40,9 @@ module _ (l : Loaded) (q : Ask) (bytes old : List ℕ) where
   pub settle-only : (new new′ : List ℕ) (r r′ : Answer) → Settling l q bytes old new r → Settling l q bytes old new′ r′ → (r ≡ r′) × (new ≡ new′)
   settle-only new new′ r r′ = λ x y. fills-only (all-checks l q bytes (length old)) _ 0 (q .jobs) old single r r′ new new′ x y
     where
-      single : Single (all-checks l q bytes (length old)) (λ v value s. (value ≡ 0) × Settles (problem l q) (wanted q bytes) v s) 0 (q .jobs) old
+      single : Single (all-checks l q bytes (length old)) (λ v value s. (value ≡ 0) × Settles (problem l q) (wanted l q bytes) v s) 0 (q .jobs) old
       single _ v w b c s t x y =
-          let o = settles-only (problem l q) (wanted q bytes) v w s t (x .1) (y .1) in
+          let o = settles-only (problem l q) (wanted l q bytes) v w s t (x .1) (y .1) in
           (o .0, x .0 ∙ sym (y .0), λ z. o .1 (ruled-yes 16 v (omega arith) (x .1) z .0))
 
   -- ── a pair of a job with itself ──
@@ -58,17 +58,17 @@ module _ (l : Loaded) (q : Ask) (bytes old : List ℕ) where
         on : C (a .v) ≡ a .v
         on = went-on C (all-checks l q bytes (length old)) (ap (λ (v : Verdict). v .number) c) (a .v)
 
-        asked : T (wanted q bytes .pair (pairFirst bytes k) (pairFirst bytes k))
+        asked : T (wanted l q bytes .pair (pairFirst bytes k) (pairFirst bytes k))
         asked = any-of (λ i. eqb (pairFirst bytes i) (pairFirst bytes k) && eqb (pairSecond bytes i) (pairFirst bytes k)) (q .pairs) k h (and-of (eqb (pairFirst bytes k) (pairFirst bytes k)) _ (eqb-refl (pairFirst bytes k)) (eqb-of (sym self)))
 
         there : pairFirst bytes k < q .jobs
         there = ok .ready .named (pairFirst bytes k) (ok .ready .paired k h .0)
 
-        by : Ruled (a .v) (Settled (problem l q) (wanted q bytes) (a .s)) 16 ((y : ℕ → ℕ) → Obeys (problem l q) (wanted q bytes) y → ⊥) → r ≡ answerOf (refused 16 0) 0 0
-        by (inl (e, s)) = absurd (itself (problem l q) (ok .clear .order) (wanted q bytes) (a .s) (pairFirst bytes k) there asked (s .keeps))
+        by : Ruled (a .v) (Settled (problem l q) (wanted l q bytes) (a .s)) 16 ((y : ℕ → ℕ) → Obeys (problem l q) (wanted l q bytes) y → ⊥) → r ≡ answerOf (refused 16 0) 0 0
+        by (inl (e, s)) = absurd (itself (problem l q) (ok .clear .order) (wanted l q bytes) (a .s) (pairFirst bytes k) there asked (s .keeps))
         by (inr (e, n)) = a .says ∙ ap (λ (v : Verdict). answerOf v (a .value) 0) (on ∙ e)
 
-    -- outside the set it is refused before that, once checks 3 to 9 have passed
+    -- outside the set it is refused before that, once checks 3 to 9 and 20 have passed
     pub itself-outside : callChecks (short l q bytes (length old)) (q .bound) l q accepted ≡ accepted → (T (has (q .set) (pairFirst bytes k)) → ⊥) → r .number ≡ 15
     unfolding settleChecks refuseAt
     itself-outside c n = ap (λ (x : Answer). x .number) (a .says) ∙ ap (λ (v : Verdict). v .number) (on (settleChecks (problem l q) (q .set) (pairFirst bytes) (pairSecond bytes) (q .pairs) (a .v)))

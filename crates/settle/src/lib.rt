@@ -78,7 +78,7 @@ fn too_few(out: usize, jobs: usize, lent: usize, pairs: usize) -> bool
     out < jobs || lent / 2 < pairs
 }
 
-// Checks 3 to 9 and 15; `out` is the number of starts lent.
+// Checks 3 to 9, 20 and 15; `out` is the number of starts lent.
 fn settle_fault(l: Loaded, q: Ask, pairs: &[u8], out: usize) -> Answer
     ensures { λ r. ⌜ Judges (settlingChecks l q (now (pairs .entry)) out accepted) (Settleable l q (now (pairs .entry)) out) r ⌝ }
 {
@@ -98,7 +98,7 @@ pub fn settle(l: Loaded, q: Ask, pairs: &[u8], out: &mut [u16]) -> Answer
     if fault.number != 0 {
         return fault;
     }
-    let r = times::settle_from(l, q, [0u16; 24], pairs);
+    let r = times::least_starts(l, q, pairs);
     let ok = r.ok;
     if !ok {
         return tables::refuse(16, 0, 0);

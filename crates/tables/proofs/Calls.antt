@@ -1,4 +1,4 @@
--- A call behind checks 3 to 9.
+-- A call behind checks 3 to 9 and 20.
 -- Assumes nothing.
 use mathlib.Core.Path.{_≡_, sym, _∙_}
 use mathlib.Core.Bool.{Bool, _||_}
@@ -33,7 +33,7 @@ module _ {C : Verdict → Verdict} {t : Answer} (k : Checks C) (e : t ≡ answer
   pub goes-behind : t .number ≡ 0 → (next : Verdict) → C next ≡ next
   goes-behind z next = went-on C k (sym (numbered 0 0 e) ∙ z) next
 
--- ── checks 3 to 9 ──
+-- ── checks 3 to 9 and 20 ──
 
 module _ (short : Bool) (bound : ℕ) (l : Loaded) (q : Ask) where
   pub call-checks : Checks (callChecks short bound l q)
@@ -43,7 +43,7 @@ module _ (short : Bool) (bound : ℕ) (l : Loaded) (q : Ask) where
     in-table : tableChecks (problem l q) accepted ≡ accepted
     in-table = both (boundCheck bound accepted) (table-checks (problem l q)) (if-zero (short || ltb (l .lent) (q .jobs)) 3 0 _ (omega arith) e .1) .0
 
-    -- where checks 3 to 9 accept, the table has passed
+    -- where they accept, the table has passed
     pub call-passed : Passed (problem l q)
     call-passed = passed (problem l q) in-table
 
@@ -54,6 +54,7 @@ module _ (short : Bool) (bound : ℕ) (l : Loaded) (q : Ask) where
       room = λ s. if-zero (short || ltb (l .lent) (q .jobs)) 3 0 _ (omega arith) e .0 (or-l short _ s);
       few = call-passed .count;
       order = in-order (problem l q) in-table;
+      released = call-passed .releases;
       within = at-most 2880 bound (if-zero (ltb 2880 bound) 9 0 accepted (omega arith) (both (boundCheck bound accepted) (table-checks (problem l q)) (if-zero (short || ltb (l .lent) (q .jobs)) 3 0 _ (omega arith) e .1) .1) .0);
     }
 

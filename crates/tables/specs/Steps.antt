@@ -2,8 +2,8 @@
 -- Assumes nothing.
 use mathlib.Core.Path.{_≡_}
 use mathlib.Core.Bool.{Bool, false, not, _||_, cond}
-use Prim.Native.Nat.{ℕ, _≤_}
-use lib.Dec.{T, eqb}
+use Prim.Native.Nat.{ℕ, _≤_, _<_}
+use lib.Dec.{T, eqb, ltb}
 use lib.ListN.{set}
 use Rattle.refusals.specs.Refusals.{Verdict}
 use Rattle.rules.specs.Table.{Problem, between, strays, jobStrays, undoes}
@@ -12,7 +12,7 @@ use Rattle.tables.specs.declared.Action.{Action}
 use Rattle.tables.specs.declared.Loaded.{Loaded}
 use Rattle.tables.specs.declared.Ask.{Ask}
 use Rattle.tables.specs.declared.Answer.{Answer}
-use Rattle.tables.specs.Tables.{answerOf, problem}
+use Rattle.tables.specs.Tables.{answerOf, jobAt, problem}
 
 -- the table with another job i
 abbrev pub withJob : Loaded → ℕ → Action → Loaded
@@ -28,16 +28,23 @@ pub record Judges (v : Verdict) (A : Type 0) (r : Answer) : Type 0 where
   pub says : r ≡ answerOf v 0 0
   pub order : r .number ≡ 0 → A
 
--- what checks 3 to 9 give where they accept
+-- no job of the table has a release over 2,880
+abbrev pub Released : Loaded → Ask → Type 0
+Released l q = (i : ℕ) → i < q .jobs → jobAt l i .release ≤ 2880
+
+-- what checks 3 to 9 and 20 give where they accept
 pub record Cleared (short : Bool) (bound : ℕ) (l : Loaded) (q : Ask) : Type 0 where
   pub room : T short → ⊥
   pub few : q .jobs ≤ 24
   pub order : InOrder (problem l q)
+  pub released : Released l q
   pub within : bound ≤ 2880
 
--- what checks 6, 7 and 8 look for in job i
+-- what checks 6, 20, 7 and 8 look for in job i
 abbrev pub jobFails : (check : ℕ) → Problem → ℕ → Bool
-jobFails check P i = cond (eqb check 6) (not (between 1 960 (P .duration i))) (cond (eqb check 7) (jobStrays P i) (undoes P i))
+jobFails check P i =
+    cond (eqb check 6) (not (between 1 960 (P .duration i)))
+    (cond (eqb check 20) (ltb 2880 (P .release i)) (cond (eqb check 7) (jobStrays P i) (undoes P i)))
 
 -- a record has a fact at or above the atom count
 abbrev pub strayRecord : (atoms : ℕ) → Action → Bool

@@ -1,4 +1,4 @@
--- The table by value, the numbers asked with, and the answer; the checks 3 to 9 of a call.
+-- The table by value, the numbers asked with, and the answer; the checks 3 to 9 and 20 of a call.
 -- Assumes nothing.
 use mathlib.Core.Path.{_≡_}
 use mathlib.Core.Bool.{Bool, _||_, cond}
@@ -7,7 +7,7 @@ use Prim.Native.Nat.{ℕ, zero, suc}
 use lib.Dec.{eqb, ltb}
 use lib.ListN.{getD, set, replicate}
 use Rattle.refusals.specs.Refusals.{Verdict, accepted, refuseIf}
-use Rattle.rules.specs.Table.{Problem, plain, tableChecks, boundCheck}
+use Rattle.rules.specs.Table.{Problem, tableChecks, boundCheck}
 use Rattle.tables.specs.declared.Action.{Action}
 use Rattle.tables.specs.declared.Loaded.{Loaded}
 use Rattle.tables.specs.declared.Ask.{Ask}
@@ -15,7 +15,7 @@ use Rattle.tables.specs.declared.Answer.{Answer}
 
 -- what stands for a record where none lies
 abbrev pub noJob : Action
-noJob = record { conditions = 0; additions = 0; deletions = 0; duration = 0 }
+noJob = record { conditions = 0; additions = 0; deletions = 0; duration = 0; release = 0 }
 
 -- the record that lies at place i
 abbrev pub recordAt : List Action → ℕ → Action
@@ -25,11 +25,20 @@ recordAt ts i = getD ts i noJob
 abbrev pub jobAt : Loaded → ℕ → Action
 jobAt l i = recordAt (l .jobs) i
 
--- the problem that the table and the numbers give
+-- the problem that the table and the numbers give; there is no gap
 abbrev pub problem : Loaded → Ask → Problem
-problem l q =
-    plain (q .jobs) (λ i. jobAt l i .conditions) (λ i. jobAt l i .additions) (λ i. jobAt l i .deletions) (λ i. jobAt l i .duration)
-    (q .atoms) (q .opening) (q .goals)
+problem l q = record {
+  count = q .jobs;
+  conditions = λ i. jobAt l i .conditions;
+  additions = λ i. jobAt l i .additions;
+  deletions = λ i. jobAt l i .deletions;
+  duration = λ i. jobAt l i .duration;
+  release = λ i. jobAt l i .release;
+  gap = 0;
+  atoms = q .atoms;
+  opening = q .opening;
+  goals = q .goals;
+}
 
 -- the answer that says a verdict: the number returned is `yea` on success and `nay` on refusal
 abbrev pub answerOf : Verdict → (yea nay : ℕ) → Answer
@@ -62,6 +71,6 @@ pub record Fills (C : Verdict → Verdict) (A : Verdict → ℕ → (ℕ → ℕ
   pub says : r ≡ answerOf (C v) value nay
   pub leaves : new ≡ changed (C v) (filled s n old) old
 
--- checks 3 to 9 of a call; `short` says that lent memory beside the table is too short, and a call without a bound gives 0
+-- checks 3 to 9 and 20 of a call; `short` says that lent memory beside the table is too short, and a call without a bound gives 0
 abbrev pub callChecks : (short : Bool) (bound : ℕ) → Loaded → Ask → Verdict → Verdict
 callChecks short bound l q next = refuseIf (short || ltb (l .lent) (q .jobs)) 3 0 (tableChecks (problem l q) (boundCheck bound next))

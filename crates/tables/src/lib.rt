@@ -16,6 +16,7 @@ pub struct Action {
     pub additions: u64,
     pub deletions: u64,
     pub duration: u16,
+    pub release: u16,
 }
 
 // The first 24 records that were lent, and how many were lent.
@@ -40,6 +41,7 @@ pub fn no_jobs(lent: usize) -> Loaded
         additions: 0,
         deletions: 0,
         duration: 0,
+        release: 0,
     };
     let jobs = [none; 24];
     Loaded { jobs, lent }
@@ -133,7 +135,7 @@ fn edges_stray(q: Ask) -> bool
     word_strays(q.opening, atoms) || word_strays(q.goals, atoms)
 }
 
-// Job i fails check 6, 7 or 8.
+// Job i fails check 6, 20, 7 or 8.
 fn job_fails(l: Loaded, q: Ask, i: usize, check: u8) -> bool
     requires { ⌜ (i < 24) × (q .atoms ≤ 64) ⌝ }
     ensures { λ r. ⌜ r ≡ jobFails check (problem l q) i ⌝ }
@@ -141,6 +143,9 @@ fn job_fails(l: Loaded, q: Ask, i: usize, check: u8) -> bool
     let a = l.jobs[i];
     if check == 6 {
         return outside(a.duration, 960);
+    }
+    if check == 20 {
+        return 2880 < a.release;
     }
     if check == 7 {
         return job_strays(a, q.atoms as usize);
@@ -174,7 +179,7 @@ pub fn refuse(number: u8, place: u16, value: u32) -> Answer
     }
 }
 
-// Checks 6 to 9.
+// Checks 6, 20 and 7 to 9, in this order.
 fn jobs_fault(l: Loaded, q: Ask, bound: u16) -> Answer
     requires { ⌜ (q .jobs ≤ 24) × (q .atoms ≤ 64) ⌝ }
     ensures { λ r. ⌜ r ≡ answerOf (jobChecks (problem l q) (boundCheck bound accepted)) 0 0 ⌝ }
@@ -183,6 +188,10 @@ fn jobs_fault(l: Loaded, q: Ask, bound: u16) -> Answer
     let long = first_job(l, q, 6);
     if long < n {
         return refuse(6, long as u16, 0);
+    }
+    let held = first_job(l, q, 20);
+    if held < n {
+        return refuse(20, held as u16, 0);
     }
     let stray = first_job(l, q, 7);
     if stray < n {
@@ -208,7 +217,7 @@ pub fn too_short(short: bool, lent: usize, jobs: usize) -> bool
     short || lent < jobs
 }
 
-// Checks 3 to 9; `short` says that lent memory beside the table is too short, and a call without a bound gives 0.
+// Checks 3 to 9 and 20; `short` says that lent memory beside the table is too short, and a call without a bound gives 0.
 pub fn call_fault(l: Loaded, q: Ask, short: bool, bound: u16) -> Answer
     ensures { λ r. ⌜ Judges (callChecks short bound l q accepted) (Cleared short bound l q) r ⌝ }
 {

@@ -20,11 +20,11 @@ use Rattle.rules.proofs.Sums.{sum-falls, cond-yes, cond-no}
 use Rattle.rules.specs.Sums.{sum}
 use Rattle.tables.specs.declared.Loaded.{Loaded}
 use Rattle.tables.specs.declared.Ask.{Ask}
-use Rattle.tables.specs.Tables.{problem}
+use Rattle.tables.specs.Tables.{jobAt, problem}
 use Rattle.entries.specs.Entries.{entry, Same}
 use Rattle.times.specs.declared.Outcome.{Outcome}
 use Rattle.times.specs.Times.{pairFirst, pairSecond, wanted}
-use Rattle.times.specs.Steps.{askedFrom, Ready, Begins, EndInTime, Under, Pushes, Pushed, Behind, NoneUnder, Round, Rounds, Solved}
+use Rattle.times.specs.Steps.{Ready, Begins, EndInTime, Under, Pushes, Pushed, Behind, NoneUnder, Round, Rounds, Solved}
 
 -- a list with one number raised to x
 module _ (s : List ℕ) (b x : ℕ) (room : b < length s) where
@@ -67,20 +67,6 @@ module _ (l : Loaded) (q : Ask) (bytes : List ℕ) where
       ends j h m (yes n) = g .ends j h n
       ends j h m (no n) = omega (arith, f .ends j h (omega arith))
 
-  -- ── with earliest starts and without ──
-
-  no-from : (from : ℕ → ℕ) (y : Plan) → Obeys (problem l q) (askedFrom from q bytes) y → Obeys (problem l q) (wanted q bytes) y
-  no-from from y w = record { from = λ j h o. omega arith; order = w .order; ends = w .ends }
-
-  pub found-zero : (from : ℕ → ℕ) (r : Outcome) → ((j : ℕ) → j < q .jobs → from j ≡ 0) → Solved (problem l q) (askedFrom from q bytes) r → Solved (problem l q) (wanted q bytes) r
-  found-zero from r zero f = record {
-    some = λ e. (let s = f .some e in record { keeps = no-from from _ (s .keeps); least = λ y w. s .least y (at-zero y w); out = s .out });
-    none = λ e y w. f .none e y (at-zero y w);
-  }
-    where
-      at-zero : (y : Plan) → Obeys (problem l q) (wanted q bytes) y → Obeys (problem l q) (askedFrom from q bytes) y
-      at-zero y w = record { from = λ j h o. omega (arith, zero j h); order = w .order; ends = w .ends }
-
   module _ (ready : Ready q bytes) where
     pub first-job : (k : ℕ) → k < q .pairs → pairFirst bytes k < q .jobs
     first-job k h = ready .named (pairFirst bytes k) (ready .paired k h .0)
@@ -89,7 +75,7 @@ module _ (l : Loaded) (q : Ask) (bytes : List ℕ) where
     second-job k h = ready .named (pairSecond bytes k) (ready .paired k h .1)
 
     -- what is asked of pair k
-    kept : (y : Plan) → Obeys (problem l q) (wanted q bytes) y → (k : ℕ) → k < q .pairs → finish (problem l q) y (pairFirst bytes k) ≤ y (pairSecond bytes k)
+    kept : (y : Plan) → Obeys (problem l q) (wanted l q bytes) y → (k : ℕ) → k < q .pairs → finish (problem l q) y (pairFirst bytes k) ≤ y (pairSecond bytes k)
     kept y w k h =
         omega (
           arith,
@@ -110,7 +96,7 @@ module _ (l : Loaded) (q : Ask) (bytes : List ℕ) where
       abbrev x : ℕ
       x = finish (problem l q) (entry s) a
 
-      x-under : (y : Plan) → Obeys (problem l q) (wanted q bytes) y → Under q t y → x ≤ y b
+      x-under : (y : Plan) → Obeys (problem l q) (wanted l q bytes) y → Under q t y → x ≤ y b
       x-under y w u = omega (arith, kept y w k h, f .under y w u a (first-job k h) (ready .paired k h .0))
 
       pub pair-none : r .ok ≡ false → NoneUnder l q bytes t
@@ -141,7 +127,7 @@ module _ (l : Loaded) (q : Ask) (bytes : List ℕ) where
               go (yes n) = omega (arith, there, short, f .ends b (second-job k h) n)
               go (no n) = omega (arith, there, short, over)
 
-          under : (y : Plan) → Obeys (problem l q) (wanted q bytes) y → Under q t y → (j : ℕ) → j < q .jobs → T (has (q .set) j) → Dec (j ≡ b) → entry (raised s b x (p .room)) j ≤ y j
+          under : (y : Plan) → Obeys (problem l q) (wanted l q bytes) y → Under q t y → (j : ℕ) → j < q .jobs → T (has (q .set) j) → Dec (j ≡ b) → entry (raised s b x (p .room)) j ≤ y j
           under y w u j m o (no n) = rw (raised-else s b x (p .room) j n) (f .under y w u j m o)
           under y w u j m o (yes i) = rw i (omega (arith, there, x-under y w u, f .under y w u b (second-job k h) (ready .paired k h .1)))
 
@@ -176,34 +162,34 @@ module _ (l : Loaded) (q : Ask) (bytes : List ℕ) where
         still j h e (yes m) = absurd (omega (arith, f .ends j h m))
         still j h e (no m) = omega (arith, f .later j h)
 
-    -- ── from the earliest starts to the settled ones ──
+    -- ── from the releases to the settled starts ──
 
-    module _ (from : ℕ → ℕ) (t : List ℕ) (begins : Begins q from t (q .jobs)) where
-      begun : (j : ℕ) → j < q .jobs → T (has (q .set) j) → entry t j ≡ from j
-      begun j h o = begins j h ∙ cond-yes (has (q .set) j) (from j) 65535 o
+    module _ (t : List ℕ) (begins : Begins l q t (q .jobs)) where
+      begun : (j : ℕ) → j < q .jobs → T (has (q .set) j) → entry t j ≡ jobAt l j .release
+      begun j h o = begins j h ∙ cond-yes (has (q .set) j) (jobAt l j .release) 65535 o
 
-      from-under : (y : Plan) → Obeys (problem l q) (askedFrom from q bytes) y → Under q (entry t) y
+      from-under : (y : Plan) → Obeys (problem l q) (wanted l q bytes) y → Under q (entry t) y
       from-under y w j h o = omega (arith, begun j h o, w .from j h o)
 
-      -- a job of the set that ends late at its earliest
-      pub found-late : (r : Outcome) → r .ok ≡ false → (EndInTime l q (entry t) (q .jobs) → ⊥) → Solved (problem l q) (askedFrom from q bytes) r
+      -- a job of the set that ends late from its release on
+      pub found-late : (r : Outcome) → r .ok ≡ false → (EndInTime l q (entry t) (q .jobs) → ⊥) → Solved (problem l q) (wanted l q bytes) r
       found-late r e n = record {
         some = λ o. absurd (true≢false (sym o ∙ e));
         none = λ o y w. n (λ j h i. omega (arith, w .ends j h i, from-under y w j h i));
       }
 
-      pub found : (r : Outcome) → EndInTime l q (entry t) (q .jobs) → Rounds l q bytes (entry t) r → Solved (problem l q) (askedFrom from q bytes) r
-      found r d g = record { some = some; none = λ o y w. g .none o y (no-from from y w) (from-under y w) }
+      pub found : (r : Outcome) → EndInTime l q (entry t) (q .jobs) → Rounds l q bytes (entry t) r → Solved (problem l q) (wanted l q bytes) r
+      found r d g = record { some = some; none = λ o y w. g .none o y w (from-under y w) }
         where
-          some : r .ok ≡ true → Settled (problem l q) (askedFrom from q bytes) (entry (r .starts))
+          some : r .ok ≡ true → Settled (problem l q) (wanted l q bytes) (entry (r .starts))
           some e = record {
             keeps = record {
               from = λ j h i. omega (arith, begun j h i, p .later j h);
               order = λ a b h i w. order a b (any-at (λ k. eqb (pairFirst bytes k) a && eqb (pairSecond bytes k) b) (q .pairs) w);
               ends = λ j h i. ends j h i (decLt (entry t j) (entry (r .starts) j));
             };
-            least = λ y w j h i. p .under y (no-from from y w) (from-under y w) j h i;
-            out = λ j h n. p .out j n ∙ begins j h ∙ cond-no (has (q .set) j) (from j) 65535 n;
+            least = λ y w j h i. p .under y w (from-under y w) j h i;
+            out = λ j h n. p .out j n ∙ begins j h ∙ cond-no (has (q .set) j) (jobAt l j .release) 65535 n;
           }
             where
               p : Pushed l q bytes (entry t) (entry (r .starts))

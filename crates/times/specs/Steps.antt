@@ -1,4 +1,4 @@
--- Least starts that keep ordered pairs of jobs from earliest starts on, and what the steps towards them promise.
+-- Least starts that keep ordered pairs of jobs, none before its release, and what the steps towards them promise.
 -- Assumes nothing.
 use mathlib.Core.Path.{_≡_}
 use mathlib.Core.Bool.{true, false, cond}
@@ -13,14 +13,10 @@ use Rattle.rules.specs.Plans.{Plan, finish}
 use Rattle.rules.specs.Settling.{Asked, Obeys, Settled}
 use Rattle.tables.specs.declared.Loaded.{Loaded}
 use Rattle.tables.specs.declared.Ask.{Ask}
-use Rattle.tables.specs.Tables.{problem}
+use Rattle.tables.specs.Tables.{jobAt, problem}
 use Rattle.entries.specs.Entries.{entry}
 use Rattle.times.specs.declared.Outcome.{Outcome}
 use Rattle.times.specs.Times.{pairFirst, pairSecond, wanted}
-
--- the same with earliest starts
-abbrev pub askedFrom : (from : ℕ → ℕ) → Ask → (bytes : List ℕ) → Asked
-askedFrom from q bytes = record { set = wanted q bytes .set; pair = wanted q bytes .pair; from = from; bound = q .bound }
 
 -- the set names jobs of the table, and every pair two jobs of the set
 pub record Ready (q : Ask) (bytes : List ℕ) : Type 0 where
@@ -36,9 +32,9 @@ pub record Solved (P : Problem) (a : Asked) (r : Outcome) : Type 0 where
 
 -- ── the steps ──
 
--- the jobs below k begin at their earliest, or are out
-abbrev pub Begins : Ask → (from : ℕ → ℕ) → (starts : List ℕ) → ℕ → Type 0
-Begins q from starts k = (j : ℕ) → j < k → entry starts j ≡ cond (has (q .set) j) (from j) 65535
+-- the jobs below k begin at their release, or are out
+abbrev pub Begins : Loaded → Ask → (starts : List ℕ) → ℕ → Type 0
+Begins l q starts k = (j : ℕ) → j < k → entry starts j ≡ cond (has (q .set) j) (jobAt l j .release) 65535
 
 -- the jobs of the set below k end by the bound
 abbrev pub EndInTime : Loaded → Ask → Plan → ℕ → Type 0
@@ -59,7 +55,7 @@ pub record Pushed (l : Loaded) (q : Ask) (bytes : List ℕ) (t s : Plan) : Type 
   pub later : (j : ℕ) → j < q .jobs → t j ≤ s j
   pub ends : (j : ℕ) → j < q .jobs → t j < s j → finish (problem l q) s j ≤ q .bound
   pub out : (j : ℕ) → (T (has (q .set) j) → ⊥) → s j ≡ t j
-  pub under : (y : Plan) → Obeys (problem l q) (wanted q bytes) y → Under q t y → Under q s y
+  pub under : (y : Plan) → Obeys (problem l q) (wanted l q bytes) y → Under q t y → Under q s y
 
 -- in s the second job of each pair below k starts when the first finishes in t, or later
 abbrev pub Behind : Loaded → Ask → (bytes : List ℕ) → (t s : Plan) → ℕ → Type 0
@@ -67,7 +63,7 @@ Behind l q bytes t s k = (i : ℕ) → i < k → finish (problem l q) t (pairFir
 
 -- none of the starts that keep what is asked has t under it
 abbrev pub NoneUnder : Loaded → Ask → (bytes : List ℕ) → Plan → Type 0
-NoneUnder l q bytes t = (y : Plan) → Obeys (problem l q) (wanted q bytes) y → Under q t y → ⊥
+NoneUnder l q bytes t = (y : Plan) → Obeys (problem l q) (wanted l q bytes) y → Under q t y → ⊥
 
 -- a round from t
 pub record Round (l : Loaded) (q : Ask) (bytes : List ℕ) (t : Plan) (r : Outcome) : Type 0 where

@@ -7,7 +7,8 @@ ghost use Rattle.facts.specs.Facts.{has};
 ghost use Rattle.facts.specs.Words.{Decides};
 ghost use Rattle.tables.specs.Tables.{problem};
 ghost use Rattle.entries.specs.Entries.{entry};
-ghost use Rattle.times.specs.Steps.{askedFrom, Ready, Begins, EndInTime, Pushes, Round, Rounds, Solved};
+ghost use Rattle.times.specs.Times.{wanted};
+ghost use Rattle.times.specs.Steps.{Ready, Begins, EndInTime, Pushes, Round, Rounds, Solved};
 use tables::Ask;
 use tables::Loaded;
 
@@ -90,25 +91,27 @@ fn rounds(l: Loaded, q: Ask, pairs: &[u8], t: [u16; 24]) -> Outcome
     }
 }
 
-// A job of the set begins at its earliest, another is out.
-fn begin_at(set: u64, j: usize, lo: u16) -> u16
+// A job of the set begins at its release, another is out.
+fn begin_at(set: u64, j: usize, release: u16) -> u16
     requires { ⌜ j < 64 ⌝ }
-    ensures { λ r. ⌜ r ≡ cond (has set j) lo 65535 ⌝ }
+    ensures { λ r. ⌜ r ≡ cond (has set j) release 65535 ⌝ }
 {
     if facts::has(set, j) {
-        return lo;
+        return release;
     }
     65535
 }
 
-fn begin(q: Ask, lo: [u16; 24]) -> [u16; 24]
+// The same of all jobs.
+fn begin(l: Loaded, q: Ask) -> [u16; 24]
     requires { ⌜ q .jobs ≤ 24 ⌝ }
-    ensures { λ r. ⌜ Begins q (entry lo) r (q .jobs) ⌝ }
+    ensures { λ r. ⌜ Begins l q r (q .jobs) ⌝ }
 {
     let n = q.jobs;
     let mut t = [65535u16; 24];
     for j in 0..n {
-        t[j] = begin_at(q.set, j, lo[j]);
+        let a = l.jobs[j];
+        t[j] = begin_at(q.set, j, a.release);
     }
     t
 }
@@ -139,12 +142,12 @@ fn all_end(l: Loaded, q: Ask, t: [u16; 24]) -> bool
     true
 }
 
-// The least starts from the earliest starts `lo`.
-pub fn settle_from(l: Loaded, q: Ask, lo: [u16; 24], pairs: &[u8]) -> Outcome
+// The least starts, from the releases on.
+pub fn least_starts(l: Loaded, q: Ask, pairs: &[u8]) -> Outcome
     requires { ⌜ Ready q (now pairs) ⌝ }
-    ensures { λ r. ⌜ Solved (problem l q) (askedFrom (entry lo) q (now (pairs .entry))) r ⌝ }
+    ensures { λ r. ⌜ Solved (problem l q) (wanted l q (now (pairs .entry))) r ⌝ }
 {
-    let t = begin(q, lo);
+    let t = begin(l, q);
     if all_end(l, q, t) {
         return rounds(l, q, pairs, t);
     }

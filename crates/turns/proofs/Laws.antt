@@ -1,6 +1,6 @@
 -- Laws of the check of a turn.
 -- Assumes nothing.
-use mathlib.Core.Path.{_≡_, refl, sym, ap, subst, _∙_}
+use mathlib.Core.Path.{_≡_, sym, ap, subst, _∙_}
 use mathlib.Core.Logic.{inl, inr, ⊎-elim}
 use mathlib.Core.Bool.{_||_}
 use mathlib.Core.List.{List}
@@ -89,8 +89,8 @@ turn-of l q g b o w t = record {
   conditions = λ j p h m. mapped b (t j h .same .conditions) p m;
   additions = λ j p h m. mapped b (t j h .same .additions) p m;
   deletions = λ j p h m. mapped b (t j h .same .deletions) p m;
-  duration = λ j h. t j h .same .duration;
-  release = λ j h. refl;
+  duration = λ j h. t j h .same .times .duration;
+  release = λ j h. t j h .same .times .release;
   opening = λ p m. mapped b o p m;
   goals = λ p m. mapped b w p m;
 }

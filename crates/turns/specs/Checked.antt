@@ -46,12 +46,17 @@ pub record Image (fact : List ℕ) (w v : ℕ) : Type 0 where
 
 -- ── jobs ──
 
+-- job b takes as long as job a and has the same release
+pub record SameTimes (a b : Action) : Type 0 where
+  pub duration : b .duration ≡ a .duration
+  pub release : b .release ≡ a .release
+
 -- job b is job a with other facts
 pub record SameJob (a b : Action) (fact : List ℕ) : Type 0 where
   pub conditions : Image fact (a .conditions) (b .conditions)
   pub additions : Image fact (a .additions) (b .additions)
   pub deletions : Image fact (a .deletions) (b .deletions)
-  pub duration : b .duration ≡ a .duration
+  pub times : SameTimes a b
 
 -- a job below n takes the place of j, and j its place
 pub record TurnsJob (l : Loaded) (n : ℕ) (g : Guess) (j : ℕ) : Type 0 where

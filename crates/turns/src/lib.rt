@@ -5,7 +5,7 @@ ghost use Prim.Native.Nat.{_≤_, _<_};
 ghost use Rattle.tables.specs.Tables.{problem};
 ghost use Rattle.entries.specs.Entries.{entry};
 ghost use Rattle.turns.specs.Turns.{Turn};
-ghost use Rattle.turns.specs.Checked.{Inverse, AllInverse, Moved, Image, SameJob, TurnsJob, TurnsBelow, MovesTo, Leader, Follower};
+ghost use Rattle.turns.specs.Checked.{Inverse, AllInverse, Moved, Image, SameTimes, SameJob, TurnsJob, TurnsBelow, MovesTo, Leader, Follower};
 use tables::Action;
 use tables::Ask;
 use tables::Loaded;
@@ -73,11 +73,21 @@ fn facts_back(fact: [u8; 64]) -> bool
     true
 }
 
+// Job b takes as long as job a and has the same release.
+fn same_times(a: Action, b: Action) -> bool
+    ensures { λ r. ⌜ (r ≡ true → SameTimes a b) ⌝ }
+{
+    if b.duration != a.duration {
+        return false;
+    }
+    b.release == a.release
+}
+
 // Job b is job a with other facts.
 fn same_job(a: Action, b: Action, fact: [u8; 64]) -> bool
     ensures { λ r. ⌜ (r ≡ true → SameJob a b fact) ⌝ }
 {
-    if b.duration != a.duration {
+    if !same_times(a, b) {
         return false;
     }
     if image(a.conditions, fact) != b.conditions {
@@ -244,7 +254,7 @@ fn pair_jobs(g: Guess, l: Loaded, i: usize, j: usize) -> Guess
 {
     let a = l.jobs[i];
     let b = l.jobs[j];
-    if a.duration != b.duration {
+    if !same_times(a, b) {
         return clash(g);
     }
     let r = swap_jobs(g, i, j);
@@ -360,7 +370,7 @@ fn leads(l: Loaded, q: Ask, m: usize, n: usize) -> bool
 {
     let a = l.jobs[m];
     let b = l.jobs[n];
-    if a.duration != b.duration {
+    if !same_times(a, b) {
         return false;
     }
     let g = find(l, q.jobs, m, n);

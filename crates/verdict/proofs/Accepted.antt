@@ -28,16 +28,16 @@ use Rattle.tables.proofs.Calls.{call-checks, cleared, accepts-by, stops-there, 
 use Rattle.verdict.specs.Offered.{offered, ChecksPlan}
 use Rattle.verdict.specs.Steps.{Sound, Given}
 
--- every plan is released: 01 knows no release
+-- the plan checks accept exactly the valid plans
 judge : (l : Loaded) (q : Ask) (s : List ℕ) → InOrder (problem l q)
     → (planChecks (problem l q) (q .bound) (starts s) accepted ≡ accepted) ↔ Valid (problem l q) (q .bound) (starts s)
-judge l q s ok = judged (problem l q) ok (q .bound) (starts s) (λ i k. omega arith)
+judge l q s ok = judged (problem l q) ok (q .bound) (starts s)
 
 module _ (short : Bool) (l : Loaded) (q : Ask) (s : List ℕ) where
   few : Bool
   few = short || ltb (length s) (q .jobs)
 
-  -- the checks 3 to 9 and 11 to 14 are one list of checks
+  -- the checks of the table and of the plan are one list of checks
   pub offered-checks : Checks (offered short l q s)
   unfolding few
   offered-checks = then-checks (call-checks few (q .bound) l q) (plan-checks (problem l q) (q .bound) (starts s))
@@ -88,7 +88,7 @@ module _ (short : Bool) (l : Loaded) (q : Ask) (s : List ℕ) where
 
 -- ── exactly these plans are accepted ──
 
--- the answer's number is 0 exactly when lent memory is long enough, the table is in order by checks 4 to 9 and the plan is valid
+-- the answer's number is 0 exactly when lent memory is long enough, the table is in order by checks 4 to 9 and 20 and the plan is valid
 pub exactly : (l : Loaded) (q : Ask) (s : List ℕ) (r : Answer) → ChecksPlan l q s r
     → (r .number ≡ 0)
     ↔ ((q .jobs ≤ length s) × (q .jobs ≤ l .lent) × (tableChecks (problem l q) (boundCheck (q .bound) accepted) ≡ accepted) × Valid (problem l q) (q .bound) (starts s))

@@ -14,7 +14,7 @@ use Rattle.tables.specs.declared.Ask.{Ask}
 use Rattle.tables.specs.declared.Answer.{Answer}
 use Rattle.tables.specs.Tables.{problem, answerOf, callChecks}
 
--- checks 3 to 9 and 11 to 14 of a call with the offered starts s; `short` says that other lent memory is too short
+-- checks 3 to 9, 20, 11 to 14 and 21 of a call with the offered starts s; `short` says that other lent memory is too short
 abbrev pub offered : (short : Bool) → Loaded → Ask → List ℕ → Verdict → Verdict
 offered short l q s next = callChecks (short || ltb (length s) (q .jobs)) (q .bound) l q (planChecks (problem l q) (q .bound) (starts s) next)
 

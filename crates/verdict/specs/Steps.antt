@@ -8,7 +8,7 @@ use lib.ListN.{length}
 use Rattle.facts.specs.Words.{Word}
 use Rattle.rules.specs.Table.{Problem}
 use Rattle.rules.specs.Plans.{Plan, starts, In, finish, holds, Valid}
-use Rattle.rules.specs.Verdicts.{late, clashes, unready}
+use Rattle.rules.specs.Verdicts.{late, early, clashes, unready}
 use Rattle.tables.specs.declared.Loaded.{Loaded}
 use Rattle.tables.specs.declared.Ask.{Ask}
 use Rattle.tables.specs.Tables.{problem}
@@ -45,6 +45,7 @@ pub record Next (P : Problem) (s : Plan) (from till r : ℕ) : Type 0 where
   pub later : from < r
   pub free : (i : ℕ) → In P s i → from < finish P s i → finish P s i < r → ⊥
 
--- what checks 11, 12 and 13 look for in job i
+-- what checks 11, 21, 12 and 13 look for in job i
 abbrev pub stepFails : (check : ℕ) → Problem → (bound : ℕ) → Plan → ℕ → Bool
-stepFails check P bound s i = cond (eqb check 11) (late P bound s i) (cond (eqb check 12) (clashes P s i) (unready P s i))
+stepFails check P bound s i =
+    cond (eqb check 11) (late P bound s i) (cond (eqb check 21) (early P s i) (cond (eqb check 12) (clashes P s i) (unready P s i)))

@@ -1,4 +1,4 @@
-// The verdict on an offered plan: refusals 3 to 9 and 11 to 14.
+// The verdict on an offered plan: refusals 3 to 9, 20, 11 to 14 and 21.
 use tables::Answer;
 use tables::Ask;
 use tables::Loaded;
@@ -104,6 +104,13 @@ fn ends_after(start: u16, duration: u16, t: u16) -> bool
     start != 65535 && (t as u32) < start as u32 + duration as u32
 }
 
+// The job is in and starts before its release.
+fn starts_early(start: u16, release: u16) -> bool
+    ensures { λ r. ⌜ r ≡ (startIn start && ltb start release) ⌝ }
+{
+    start != 65535 && start < release
+}
+
 // Both jobs are in, and each starts before the other finishes: touching is not that.
 fn together(a: u16, a_long: u16, b: u16, b_long: u16) -> bool
     ensures { λ r. ⌜ r ≡ ((startIn a && ltb b (a + «a_long»)) && (startIn b && ltb a (b + «b_long»))) ⌝ }
@@ -158,7 +165,7 @@ fn unready(l: Loaded, q: Ask, s: &[u16], i: usize) -> bool
     first_lacking(state, a.conditions) < 64
 }
 
-// Job i fails check 11, 12 or 13.
+// Job i fails check 11, 21, 12 or 13.
 fn step_fails(l: Loaded, q: Ask, s: &[u16], i: usize, check: u8) -> bool
     requires { ⌜ Given q (now s) × (i < q .jobs) ⌝ }
     ensures { λ r. ⌜ r ≡ stepFails check (problem l q) (q .bound) (starts (now (s .entry))) i ⌝ }
@@ -166,6 +173,10 @@ fn step_fails(l: Loaded, q: Ask, s: &[u16], i: usize, check: u8) -> bool
     if check == 11 {
         let a = l.jobs[i];
         return ends_after(s[i], a.duration, q.bound);
+    }
+    if check == 21 {
+        let a = l.jobs[i];
+        return starts_early(s[i], a.release);
     }
     if check == 12 {
         return clashes(l, q, s, i);
@@ -195,7 +206,7 @@ fn first_missing(l: Loaded, q: Ask, s: &[u16]) -> u32
     first_lacking(facts_at(l, q, s, q.bound), q.goals)
 }
 
-// Checks 11 to 14.
+// Checks 11, 21 and 12 to 14, in this order.
 fn steps_fault(l: Loaded, q: Ask, s: &[u16]) -> Answer
     requires { ⌜ Given q (now s) ⌝ }
     ensures { λ r. ⌜ r ≡ answerOf (planChecks (problem l q) (q .bound) (starts (now (s .entry))) accepted) 0 0 ⌝ }
@@ -204,6 +215,10 @@ fn steps_fault(l: Loaded, q: Ask, s: &[u16]) -> Answer
     let late = first_step(l, q, s, 11);
     if late < n {
         return tables::refuse(11, late as u16, 0);
+    }
+    let early = first_step(l, q, s, 21);
+    if early < n {
+        return tables::refuse(21, early as u16, 0);
     }
     let clash = first_step(l, q, s, 12);
     if clash < n {

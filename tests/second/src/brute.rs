@@ -1,5 +1,6 @@
-//! Two slow ways to the first plan, for the self-test only: every start vector in the stated order,
-//! and every order of jobs with each job as early as the ones before it allow.
+//! Slow ways, for the self-test only. To the first plan: every start vector in the stated order, and every order
+//! of jobs with each job as early as the ones before it and its release allow. To estimates and settled starts:
+//! every start vector.
 
 use crate::rules::{check_plan, facts_at, finish, interfere, Problem, OUT};
 
@@ -23,11 +24,12 @@ fn step(problem: &Problem, starts: &mut [u16]) -> bool {
     false
 }
 
-/// The first valid vector.
-pub fn first_plan(problem: &Problem) -> Option<Vec<u16>> {
+/// Of all start vectors that end by the bound, in the stated order, the first that is taken. Starts before a
+/// release are asked about too: whether they are valid is the rules' business.
+fn first_taken(problem: &Problem, mut takes: impl FnMut(&[u16]) -> bool) -> Option<Vec<u16>> {
     let mut starts = vec![OUT; problem.jobs.len()];
     loop {
-        if check_plan(problem, &starts).is_ok() {
+        if takes(&starts) {
             return Some(starts);
         }
         if !step(problem, &mut starts) {
@@ -36,12 +38,53 @@ pub fn first_plan(problem: &Problem) -> Option<Vec<u16>> {
     }
 }
 
+/// The first valid vector.
+pub fn first_plan(problem: &Problem) -> Option<Vec<u16>> {
+    first_taken(problem, |starts| check_plan(problem, starts).is_ok())
+}
+
+/// For each job the least start that it has in any of the vectors that keep a rule; out if it is in none.
+fn least_of_each(problem: &Problem, keeps: impl Fn(&[u16]) -> bool) -> Vec<u16> {
+    let mut least = vec![OUT; problem.jobs.len()];
+    first_taken(problem, |starts| {
+        if keeps(starts) {
+            least.iter_mut().zip(starts).for_each(|(least, &start)| *least = start.min(*least));
+        }
+        false
+    });
+    least
+}
+
+/// The earliest start of each job in any plan, whatever the goals: without deletions, the estimate.
+pub fn earliest_starts(problem: &Problem) -> Vec<u16> {
+    let no_goals = Problem { goals: 0, ..*problem };
+    least_of_each(problem, |starts| check_plan(&no_goals, starts).is_ok())
+}
+
+/// Of the vectors of the set that keep the pairs and the releases the least start of each job: itself such a vector
+/// if there is any.
+pub fn settled(problem: &Problem, set: u64, pairs: &[u8]) -> Option<Vec<u16>> {
+    let jobs = problem.jobs;
+    let keeps = |starts: &[u16]| {
+        let in_set = |job: usize| set >> job & 1 == 1;
+        let placed = |job: usize| (starts[job] != OUT) == in_set(job) && starts[job] >= jobs[job].release;
+        let kept = |pair: &[u8]| {
+            let (first, second) = (pair[0] as usize, pair[1] as usize);
+            finish(&jobs[first], starts[first]) <= starts[second] as u32
+        };
+        (0..jobs.len()).all(placed) && pairs.chunks_exact(2).all(kept)
+    };
+    let least = least_of_each(problem, keeps);
+    keeps(&least).then_some(least)
+}
+
 /// The bounds are tried from 0 on.
 pub fn least_bound(problem: &Problem) -> Option<(u16, Vec<u16>)> {
     (0..=problem.bound).find_map(|bound| Some((bound, first_plan(&Problem { bound, ..*problem })?)))
 }
 
-/// The job's earliest start at which its conditions hold, with all jobs placed before that interfere with it done.
+/// The job's earliest start from its release on at which its conditions hold, with all jobs placed before that
+/// interfere with it done.
 fn earliest_place(problem: &Problem, starts: &[u16], job: usize) -> Option<u16> {
     let jobs = problem.jobs;
     let last = problem.bound.checked_sub(jobs[job].duration)?;
@@ -50,7 +93,8 @@ fn earliest_place(problem: &Problem, starts: &[u16], job: usize) -> Option<u16> 
         .filter(|&other| interfere(&jobs[job], &jobs[other]))
         .map(|other| finish(&jobs[other], starts[other]) as u16)
         .max()
-        .unwrap_or(0);
+        .unwrap_or(0)
+        .max(jobs[job].release);
     (free..=last).find(|&time| jobs[job].conditions & !facts_at(problem, starts, time as u32) == 0)
 }
 
@@ -71,8 +115,8 @@ fn try_orders(problem: &Problem, starts: &mut Vec<u16>, best: &mut Option<Vec<u1
     }
 }
 
-/// The first plan among those in which every job is as early as its order allows; the first of all is one of them,
-/// since jobs moved earlier in the same order make no plan invalid.
+/// The first plan among those in which every job is as early as its order and its release allow; the first of all
+/// is one of them, since jobs moved earlier in the same order, but not before their releases, make no plan invalid.
 pub fn first_plan_by_orders(problem: &Problem) -> Option<Vec<u16>> {
     let mut best = None;
     try_orders(problem, &mut vec![OUT; problem.jobs.len()], &mut best);

@@ -23,6 +23,13 @@ impl Example {
             bound: self.bound,
         }
     }
+
+    /// The same with these releases, from job 0 on.
+    pub fn released(&self, releases: &[u16]) -> Example {
+        let mut other = self.clone();
+        other.jobs.iter_mut().zip(releases).for_each(|(job, &release)| job.release = release);
+        other
+    }
 }
 
 pub fn word(facts: &[u64]) -> u64 {
@@ -30,7 +37,13 @@ pub fn word(facts: &[u64]) -> u64 {
 }
 
 pub fn job(conditions: &[u64], additions: &[u64], deletions: &[u64], duration: u16) -> Job {
-    Job { conditions: word(conditions), additions: word(additions), deletions: word(deletions), duration }
+    Job {
+        conditions: word(conditions),
+        additions: word(additions),
+        deletions: word(deletions),
+        duration,
+        release: 0,
+    }
 }
 
 /// Jobs U of the rules.
@@ -162,6 +175,13 @@ impl Dice {
         Example { jobs, atoms, opening, goals: self.facts(3, atoms), bound: self.below(last_bound + 1) }
     }
 
+    /// The same table with releases up to `last`: each job has none or one of two, so some come together.
+    pub fn with_releases(&mut self, example: &Example, last: u64) -> Example {
+        let times = [0, self.below(last + 1) as u16, self.below(last + 1) as u16];
+        let releases: Vec<u16> = example.jobs.iter().map(|_| times[self.below(3) as usize]).collect();
+        example.released(&releases)
+    }
+
     /// A random table whose goals are facts that its jobs, one after the other, lead to; at least `new` of them
     /// do not hold at the opening, if a few throws give such a table.
     pub fn table_with_goals(
@@ -207,6 +227,7 @@ impl Dice {
             additions,
             deletions: self.facts(2, atoms) & !additions,
             duration: 1 + self.below(longest) as u16,
+            release: 0,
         }
     }
 }

@@ -21,23 +21,25 @@ fn number(bytes: &[u8]) -> u64 {
     bytes.iter().rev().fold(0, |value, &byte| value << 8 | byte as u64)
 }
 
-/// A record's three words and its duration; the six bytes behind are the caller's business.
+/// A record's three words, its duration and its release; the four bytes behind are the caller's business.
 pub fn job_from(record: &[u8]) -> Job {
     Job {
         conditions: number(&record[0..8]),
         additions: number(&record[8..16]),
         deletions: number(&record[16..24]),
         duration: number(&record[24..26]) as u16,
+        release: number(&record[26..28]) as u16,
     }
 }
 
-/// The 26 bytes of a job.
+/// The 28 bytes of a job.
 pub fn job_bytes(job: &Job) -> Vec<u8> {
     let mut bytes = Vec::new();
     for word in [job.conditions, job.additions, job.deletions] {
         bytes.extend(word.to_le_bytes());
     }
     bytes.extend(job.duration.to_le_bytes());
+    bytes.extend(job.release.to_le_bytes());
     bytes
 }
 
@@ -61,7 +63,7 @@ fn take_apart(file: &[u8]) -> Result<(Saved, &[u8]), Refusal> {
     }
     let first = front.len() - distance;
     let records = &front[first..first + length];
-    if records.chunks_exact(RECORD).any(|record| record[26..].iter().any(|&byte| byte != 0)) {
+    if records.chunks_exact(RECORD).any(|record| record[28..].iter().any(|&byte| byte != 0)) {
         return refuse(2, 0);
     }
     Ok((saved, records))
@@ -98,7 +100,7 @@ fn save_bytes(given: &Given) -> Vec<u8> {
     let mut bytes = Vec::new();
     for job in &given.records[..count] {
         bytes.extend(job_bytes(job));
-        bytes.extend([0; 6]);
+        bytes.extend([0; 4]);
     }
     bytes.extend(given.opening.to_le_bytes());
     bytes.extend(given.goals.to_le_bytes());

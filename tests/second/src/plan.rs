@@ -2,8 +2,9 @@
 //! and the first plan in the stated order is found by asking that question job by job.
 //!
 //! Only two kinds of wishes are ever put: a job is out, or a job is in and starts by a latest start.
-//! Both still hold when jobs are moved to earlier starts in the same order. So it is enough to look at plans
-//! in which every job starts at 0 or at a finish, and of two ways to the same standing the earlier one is as good.
+//! Both still hold when jobs are moved to earlier starts in the same order, none before its release. So it is
+//! enough to look at plans in which every job starts at 0, at a finish or at its release, and of two ways to the
+//! same standing the earlier one is as good: it can wait.
 
 use crate::rules::{
     check_bounded_table, check_lent, fact_cost, interfere, job_estimates, members, refuse, Given, Job,
@@ -33,7 +34,7 @@ struct Moment {
     starts: Starts,
 }
 
-/// A moment without its time: what can still happen depends on this alone.
+/// A moment without its time: what can still happen depends on this and on the time alone.
 #[derive(PartialEq, Eq, Hash)]
 struct Standing {
     facts: u64,
@@ -50,6 +51,7 @@ struct Search<'a> {
     bound: u16,
     wanted: u32,
     usable: u32,
+    landing: u32,
     harmless: u32,
     clashes: [u32; MOST_JOBS],
     later_twins: [u32; MOST_JOBS],
@@ -63,6 +65,11 @@ fn bit(job: usize) -> u32 {
 
 fn jobs_of(set: u32) -> impl Iterator<Item = usize> {
     members(set as u64)
+}
+
+/// The jobs of a set for which something holds.
+fn those(set: u32, holds: impl Fn(usize) -> bool) -> u32 {
+    jobs_of(set).filter(|&job| holds(job)).fold(0, |those, job| those | bit(job))
 }
 
 /// For each job the jobs that interfere with it.
@@ -113,20 +120,24 @@ impl<'a> Search<'a> {
         let jobs = problem.jobs;
         let usable = useful(jobs, problem.goals, wishes);
         let clashes = clashes(jobs);
-        // A job that interferes with no other and deletes no goal is started as soon as it can be.
-        let harmless = jobs_of(usable)
-            .filter(|&job| clashes[job] & usable == 0 && jobs[job].deletions & problem.goals == 0)
-            .fold(0, |set, job| set | bit(job));
         let mut latest = [None; MOST_JOBS];
         for (job, record) in jobs.iter().enumerate() {
             latest[job] = problem.bound.checked_sub(record.duration).map(|last| last.min(wishes.latest[job]));
         }
+        // The jobs whose releases are moments of their own: after 0, and not too late to start.
+        let landing = those(usable, |job| {
+            jobs[job].release > 0 && latest[job].is_some_and(|last| jobs[job].release <= last)
+        });
+        // A job that interferes with no other and deletes no goal is started as soon as it can be.
+        let harmless =
+            those(usable, |job| clashes[job] & usable == 0 && jobs[job].deletions & problem.goals == 0);
         Search {
             jobs,
             goals: problem.goals,
             bound: problem.bound,
             wanted: wishes.wanted,
             usable,
+            landing,
             harmless,
             clashes,
             later_twins: later_twins(jobs, wishes),
@@ -171,6 +182,7 @@ impl<'a> Search<'a> {
             let record = &self.jobs[job];
             record.conditions & !moment.facts == 0
                 && record.additions & !moment.facts != 0
+                && record.release <= moment.time
                 && self.clashes[job] & moment.running == 0
                 && self.in_time(job, moment.time)
                 && self.later_twins[job] & !begun == 0
@@ -187,19 +199,25 @@ impl<'a> Search<'a> {
     }
 
     /// Does not start a job that could start now. To start it later, with nothing that interferes with it
-    /// having run in between, would only be a worse plan than to start it now.
+    /// having run in between, would only be a worse plan than to start it now. (A job that is not released could
+    /// not start now.)
     fn with_wait(&self, moment: &Moment, job: usize) -> Moment {
         let mut next = moment.clone();
         next.held_back |= bit(job);
         next
     }
 
-    /// The moment of the next finish.
-    fn next_finish(&self, moment: &Moment) -> Option<Moment> {
-        let time = jobs_of(moment.running).map(|job| self.finish(moment, job)).min()?;
-        let ended = jobs_of(moment.running)
-            .filter(|&job| self.finish(moment, job) == time)
-            .fold(0, |set, job| set | bit(job));
+    /// The next time at which a job that has not started is released.
+    fn next_release(&self, moment: &Moment) -> Option<u16> {
+        let waiting = self.landing & !moment.done & !moment.running;
+        jobs_of(waiting).map(|job| self.jobs[job].release).filter(|&release| release > moment.time).min()
+    }
+
+    /// The moment of the next finish or release.
+    fn next_moment(&self, moment: &Moment) -> Option<Moment> {
+        let finishes = jobs_of(moment.running).map(|job| self.finish(moment, job));
+        let time = finishes.chain(self.next_release(moment)).min()?;
+        let ended = those(moment.running, |job| self.finish(moment, job) == time);
         let mut next = moment.clone();
         next.time = time;
         next.facts = self.after(moment.facts, ended);
@@ -222,7 +240,7 @@ impl<'a> Search<'a> {
         }
     }
 
-    /// A start or a wait for each job that may start, then on to the next finish.
+    /// A start or a wait for each job that may start, then on to the next moment.
     fn search(&mut self, moment: &Moment) -> Option<Starts> {
         if self.complete(moment) {
             return Some(moment.starts);
@@ -231,7 +249,7 @@ impl<'a> Search<'a> {
             return None;
         }
         let Some(job) = self.startable(moment) else {
-            return self.search_from_next_finish(moment);
+            return self.search_from_next_moment(moment);
         };
         let found = self.search(&self.with_start(moment, job));
         if found.is_some() || self.harmless & bit(job) != 0 {
@@ -241,8 +259,8 @@ impl<'a> Search<'a> {
     }
 
     /// What failed from the same standing at this time or earlier fails now.
-    fn search_from_next_finish(&mut self, moment: &Moment) -> Option<Starts> {
-        let next = self.next_finish(moment)?;
+    fn search_from_next_moment(&mut self, moment: &Moment) -> Option<Starts> {
+        let next = self.next_moment(moment)?;
         let standing = self.standing(&next);
         if self.failed.get(&standing).is_some_and(|&time| time <= next.time) {
             return None;
@@ -283,8 +301,7 @@ impl<'a> Search<'a> {
     /// that is missing for a goal or for a needed job.
     fn needed(&self, moment: &Moment, earliest: &Starts) -> u32 {
         let there = self.after(moment.facts, moment.running);
-        let able =
-            jobs_of(self.usable).filter(|&job| earliest[job] != NEVER).fold(0, |set, job| set | bit(job));
+        let able = those(self.usable, |job| earliest[job] != NEVER);
         let mut set = self.wanted & able;
         loop {
             let facts = jobs_of(set).fold(self.goals, |facts, job| facts | self.jobs[job].conditions);
@@ -298,9 +315,7 @@ impl<'a> Search<'a> {
 
     /// The one job of the set that adds the fact; none if several do.
     fn only_adder(&self, set: u32, fact: usize) -> u32 {
-        let adders = jobs_of(set)
-            .filter(|&job| self.jobs[job].additions >> fact & 1 == 1)
-            .fold(0u32, |adders, job| adders | bit(job));
+        let adders = those(set, |job| self.jobs[job].additions >> fact & 1 == 1);
         if adders.count_ones() == 1 {
             adders
         } else {
@@ -310,16 +325,38 @@ impl<'a> Search<'a> {
 
     /// Needed jobs that all interfere with each other run one after the other, from the earliest start on.
     fn fit(&self, needed: u32, earliest: &Starts) -> bool {
-        jobs_of(needed).all(|first| {
-            let (mut begin, mut length) = (earliest[first], self.jobs[first].duration);
-            let mut others = needed & self.clashes[first];
-            while let Some(next) = jobs_of(others).next() {
-                begin = begin.min(earliest[next]);
-                length += self.jobs[next].duration;
-                others &= self.clashes[next];
-            }
-            begin + length <= self.bound
+        jobs_of(needed).all(|first| self.fit_behind(first, needed, earliest, self.bound))
+            && (self.landing == 0 || self.fit_between(needed, earliest))
+    }
+
+    /// Where there are releases: so do those that come no earlier than one of them and end by the last finish of
+    /// one that is wanted, or by the bound.
+    fn fit_between(&self, needed: u32, earliest: &Starts) -> bool {
+        let wanted_ends = jobs_of(needed & self.wanted).map(|job| self.last_finish(job));
+        wanted_ends.chain([self.bound]).all(|end| {
+            let ending = those(needed, |job| self.last_finish(job) <= end);
+            jobs_of(ending).all(|first| {
+                let coming = those(ending, |job| earliest[job] >= earliest[first]);
+                self.fit_behind(first, coming, earliest, end)
+            })
         })
+    }
+
+    /// A job, and jobs of the set that interfere with it and each other, fit before the end.
+    fn fit_behind(&self, first: usize, set: u32, earliest: &Starts, end: u16) -> bool {
+        let (mut begin, mut length) = (earliest[first], self.jobs[first].duration);
+        let mut others = set & self.clashes[first];
+        while let Some(next) = jobs_of(others).next() {
+            begin = begin.min(earliest[next]);
+            length += self.jobs[next].duration;
+            others &= self.clashes[next];
+        }
+        begin + length <= end
+    }
+
+    /// The finish at the latest start; 0 for a job that never fits.
+    fn last_finish(&self, job: usize) -> u16 {
+        self.latest[job].map_or(0, |last| last + self.jobs[job].duration)
     }
 
     /// Facts that no running job deletes are there; what running jobs add comes at their finish.
@@ -346,7 +383,7 @@ impl<'a> Search<'a> {
         costs: &[u16; FACTS],
         earliest: &Starts,
     ) -> u16 {
-        let mut start = moment.time;
+        let mut start = moment.time.max(self.jobs[job].release);
         for fact in members(self.jobs[job].conditions) {
             start = start.max(costs[fact]);
         }
@@ -354,13 +391,13 @@ impl<'a> Search<'a> {
             start = start.max(self.finish(moment, other));
         }
         if moment.held_back & bit(job) != 0 {
-            start = start.max(self.earliest_release(self.clashes[job] & idle, earliest));
+            start = start.max(self.earliest_finish(self.clashes[job] & idle, earliest));
         }
         start
     }
 
     /// The earliest finish of jobs that have not started yet.
-    fn earliest_release(&self, set: u32, earliest: &Starts) -> u16 {
+    fn earliest_finish(&self, set: u32, earliest: &Starts) -> u16 {
         jobs_of(set)
             .filter(|&job| earliest[job] != NEVER)
             .map(|job| earliest[job] + self.jobs[job].duration)

@@ -12,6 +12,7 @@ pub const MOST_JOBS: usize = 24;
 pub const FACTS: usize = 64;
 
 const LONGEST: u16 = 960;
+const LAST_RELEASE: u16 = 2_880;
 const LAST_BOUND: u64 = 2_880;
 const MOST_PAIRS: u64 = 600;
 const PAIR_TABLE: u64 = 552;
@@ -22,6 +23,8 @@ pub struct Job {
     pub additions: u64,
     pub deletions: u64,
     pub duration: u16,
+    /// The job does not start before.
+    pub release: u16,
 }
 
 /// What is said instead of an answer.
@@ -46,7 +49,7 @@ pub struct Given<'a> {
     pub bound: u64,
 }
 
-/// A job table that has passed checks 3 to 8 (and 9 where there is a bound).
+/// A job table that has passed checks 3 to 8 and 20 (and 9 where there is a bound).
 #[derive(Clone, Copy)]
 pub struct Problem<'a> {
     pub jobs: &'a [Job],
@@ -82,7 +85,7 @@ pub fn check_lent(lent: usize, needed: u64) -> Result<(), Refusal> {
     Ok(())
 }
 
-/// Refusals 3 (records) and 4 to 8.
+/// Refusals 3 (records), 4 to 8, and 20 between 6 and 7.
 pub fn check_table<'a>(given: &Given<'a>) -> Result<Problem<'a>, Refusal> {
     check_lent(given.records.len(), given.count)?;
     if given.atoms < 1 || given.atoms > FACTS as u64 {
@@ -93,12 +96,13 @@ pub fn check_table<'a>(given: &Given<'a>) -> Result<Problem<'a>, Refusal> {
     }
     let jobs = &given.records[..given.count as usize];
     check_durations(jobs)?;
+    check_releases(jobs)?;
     check_facts(given, jobs)?;
     check_effects(jobs)?;
     Ok(Problem { jobs, opening: given.opening, goals: given.goals, bound: 0 })
 }
 
-/// Refusals 3 (records) and 4 to 9.
+/// The same and refusal 9.
 pub fn check_bounded_table<'a>(given: &Given<'a>) -> Result<Problem<'a>, Refusal> {
     let problem = check_table(given)?;
     if given.bound > LAST_BOUND {
@@ -110,6 +114,13 @@ pub fn check_bounded_table<'a>(given: &Given<'a>) -> Result<Problem<'a>, Refusal
 fn check_durations(jobs: &[Job]) -> Result<(), Refusal> {
     match jobs.iter().position(|job| job.duration < 1 || job.duration > LONGEST) {
         Some(job) => refuse(6, job as u64),
+        None => Ok(()),
+    }
+}
+
+fn check_releases(jobs: &[Job]) -> Result<(), Refusal> {
+    match jobs.iter().position(|job| job.release > LAST_RELEASE) {
+        Some(job) => refuse(20, job as u64),
         None => Ok(()),
     }
 }
@@ -167,9 +178,10 @@ pub fn facts_at(problem: &Problem, starts: &[u16], time: u32) -> u64 {
     })
 }
 
-/// Refusals 11 to 14 of a plan with one start a job.
+/// Refusals 11 to 14 of a plan with one start a job, and 21 between 11 and 12.
 pub fn check_plan(problem: &Problem, starts: &[u16]) -> Result<(), Refusal> {
     check_ends(problem, starts)?;
+    check_early_starts(problem, starts)?;
     check_overlaps(problem, starts)?;
     check_conditions(problem, starts)?;
     check_goals(problem, starts)
@@ -179,6 +191,13 @@ fn check_ends(problem: &Problem, starts: &[u16]) -> Result<(), Refusal> {
     let late = |&job: &usize| finish(&problem.jobs[job], starts[job]) > problem.bound as u32;
     match jobs_in(starts).find(late) {
         Some(job) => refuse(11, job as u64),
+        None => Ok(()),
+    }
+}
+
+fn check_early_starts(problem: &Problem, starts: &[u16]) -> Result<(), Refusal> {
+    match jobs_in(starts).find(|&job| starts[job] < problem.jobs[job].release) {
+        Some(job) => refuse(21, job as u64),
         None => Ok(()),
     }
 }
@@ -212,7 +231,7 @@ fn check_goals(problem: &Problem, starts: &[u16]) -> Result<(), Refusal> {
     }
 }
 
-/// An offered plan is looked at after 3 to 9, with the starts lent by the caller.
+/// An offered plan is looked at after its table, with the starts lent by the caller.
 pub fn check_offered<'a>(given: &Given<'a>, starts: &'a [u16]) -> Result<(Problem<'a>, &'a [u16]), Refusal> {
     check_lent(starts.len(), given.count)?;
     let problem = check_bounded_table(given)?;
@@ -334,7 +353,7 @@ pub fn fact_cost(problem: &Problem, estimates: &[u16], fact: usize) -> u16 {
         .unwrap_or(NEVER)
 }
 
-/// The one solution of the rules, reached from "never" by falling steps.
+/// The one solution of the rules, reached from "never" by falling steps: the greater of release and condition cost.
 pub fn job_estimates(problem: &Problem) -> Vec<u16> {
     let mut estimates = vec![NEVER; problem.jobs.len()];
     loop {
@@ -342,7 +361,7 @@ pub fn job_estimates(problem: &Problem) -> Vec<u16> {
         let better: Vec<u16> = problem
             .jobs
             .iter()
-            .map(|job| members(job.conditions).map(|fact| costs[fact]).max().unwrap_or(0))
+            .map(|job| members(job.conditions).map(|fact| costs[fact]).max().unwrap_or(0).max(job.release))
             .collect();
         if better == estimates {
             return estimates;
@@ -376,10 +395,12 @@ fn check_asked(jobs: usize, set: u64, pair_count: u64, pairs: &[u8]) -> Result<(
     }
 }
 
-/// The least starts: from 0, a second job is moved behind its first until nothing moves or a job ends too late.
+/// The least starts: from the releases on, a second job is moved behind its first until nothing moves or a job ends
+/// too late.
 fn least_starts(problem: &Problem, set: u64, pairs: &[u8]) -> Option<Vec<u16>> {
     let jobs = problem.jobs;
-    let mut starts: Vec<u16> = (0..jobs.len()).map(|job| if set >> job & 1 == 1 { 0 } else { OUT }).collect();
+    let first = |job: usize| if set >> job & 1 == 1 { jobs[job].release } else { OUT };
+    let mut starts: Vec<u16> = (0..jobs.len()).map(first).collect();
     loop {
         if check_ends(problem, &starts).is_err() {
             return None;

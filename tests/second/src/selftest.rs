@@ -40,6 +40,7 @@ impl Tally {
 pub fn run() -> ExitCode {
     let mut tally = Tally::default();
     test_cases_p(&mut tally);
+    test_late_crate(&mut tally);
     test_against_start_vectors(&mut tally);
     test_against_orders(&mut tally);
     test_known_tables_against_orders(&mut tally);
@@ -111,9 +112,25 @@ fn test_cases_p(tally: &mut Tally) {
     tally.same("P11 2881", plan_of(&long(960, 2_881)), refused(9, 0));
 }
 
-/// The first plan and the least bound of many small tables, against every start vector in turn.
+/// Warm waits for its flight: the numbers of change request Five.
+fn test_late_crate(tally: &mut Tally) {
+    let late = jobs_u(&[2, 3, 4], 2_880).released(&[0, 0, 6, 0]);
+    tally.same("late crate", least_of(&late), Ok((14, vec![0, 7, 6, 4])));
+    tally.same("late crate, no sooner", plan_of(&Example { bound: 13, ..late.clone() }), refused(10, 0));
+    let release = |release, bound| Example { bound, ..jobs_u(&[1], 0).released(&[release]) };
+    tally.same("the last release", plan_of(&release(2_876, 2_880)), Ok(vec![2_876, OUT, OUT, OUT]));
+    tally.same("released too late for the bound", plan_of(&release(2_877, 2_880)), refused(10, 0));
+    tally.same("released at the last bound", plan_of(&release(2_880, 2_880)), refused(10, 0));
+    tally.same("2881", plan_of(&release(2_881, 2_880)), refused(20, 0));
+    let unused = jobs_u(&[0], 0).released(&[2_880; 4]);
+    tally.same("out of use, however late", plan_of(&unused), Ok(vec![OUT; 4]));
+}
+
+/// The first plan and the least bound of many small tables, without releases and with them, against every start
+/// vector in turn.
 fn test_against_start_vectors(tally: &mut Tally) {
     let mut dice = Dice(0x1234_5678_9abc_def1);
+    let mut releases = Dice(0x5eed_1a7e_c4a7_e5a1);
     for (tables, jobs, facts, longest, bound) in
         [(6_000, 4, 5, 4, 10), (6_000, 4, 3, 3, 10), (800, 5, 6, 3, 7), (400, 6, 6, 2, 5)]
     {
@@ -122,40 +139,60 @@ fn test_against_start_vectors(tally: &mut Tally) {
                 0 => dice.table(jobs, facts, longest, bound),
                 _ => dice.table_with_goals(jobs, facts, longest, bound, 1 + number % 3),
             };
-            let problem = check_bounded_table(&example.given()).expect("random tables pass the checks");
             let what = format!("random table {number} of up to {jobs} jobs");
-            tally.same(&what, plan_of(&example).ok(), brute::first_plan(&problem));
-            tally.same(&what, least_of(&example).ok(), brute::least_bound(&problem));
+            check_by_vectors(tally, &what, &example);
+            let last = releases.below(bound + 1);
+            check_by_vectors(tally, &(what + ", released"), &releases.with_releases(&example, last));
         }
     }
 }
 
-/// The first plans of larger tables, also at the least bound and one below it, against every order of jobs.
+fn check_by_vectors(tally: &mut Tally, what: &str, example: &Example) {
+    let problem = check_bounded_table(&example.given()).expect("random tables pass the checks");
+    tally.same(what, plan_of(example).ok(), brute::first_plan(&problem));
+    tally.same(what, least_of(example).ok(), brute::least_bound(&problem));
+}
+
+/// The first plans of larger tables, without releases and with them, against every order of jobs.
 fn test_against_orders(tally: &mut Tally) {
     let mut dice = Dice(0x2468_ace0_1357_9bdf);
+    let mut releases = Dice(0x7071_6d61_7274_7321);
     for (tables, jobs, facts, longest, bound) in
         [(6_000, 6, 6, 6, 40), (6_000, 5, 9, 6, 30), (800, 7, 7, 6, 40)]
     {
         for number in 0..tables {
             let example = dice.table_with_goals(jobs, facts, longest, bound, 2 + number % 4);
             let what = format!("random table {number} of up to {jobs} jobs, by orders");
-            check_by_orders(tally, &what, &example);
-            if let Ok((least, _)) = least_of(&example) {
-                check_by_orders(tally, &what, &Example { bound: least as u64, ..example.clone() });
-                check_by_orders(tally, &what, &Example { bound: least.saturating_sub(1) as u64, ..example });
-            }
+            check_by_orders_around(tally, &what, &example);
+            let last = releases.below(bound + 1);
+            check_by_orders_around(tally, &(what + ", released"), &releases.with_releases(&example, last));
+        }
+    }
+}
+
+/// Within the bound, at the least bound and one below it.
+fn check_by_orders_around(tally: &mut Tally, what: &str, example: &Example) {
+    check_by_orders(tally, what, example);
+    if let Ok((least, _)) = least_of(example) {
+        for bound in [least, least.saturating_sub(1)] {
+            check_by_orders(tally, what, &Example { bound: bound as u64, ..example.clone() });
         }
     }
 }
 
 /// The same for house batches and a trolley.
 fn test_known_tables_against_orders(tally: &mut Tally) {
+    let mut releases = Dice(0x1357_2468_9bdf_ace1);
     let pairs = [[1, 1], [1, 2], [2, 1], [2, 2], [4, 1], [1, 4], [5, 1], [0, 7], [7, 0], [3, 7], [2, 4]];
     let examples = pairs.iter().map(|pair| house(pair)).chain([trolley(1), trolley(2)]);
     for example in examples {
         let least = least_of(&example).map_or(0, |(least, _)| least as u64);
         for bound in [least.saturating_sub(1), least, least + 1, least + 6] {
             check_by_orders(tally, "known table, by orders", &Example { bound, ..example.clone() });
+        }
+        for last in [least, 2 * least] {
+            let released = releases.with_releases(&Example { bound: 3 * least, ..example.clone() }, last);
+            check_by_orders_around(tally, "known table, released", &released);
         }
     }
 }
@@ -168,13 +205,19 @@ fn check_by_orders(tally: &mut Tally, what: &str, example: &Example) {
 /// Where brute force is too slow: the plan is valid, no smaller bound has one, and no job can come earlier alone.
 fn test_larger_tables(tally: &mut Tally) {
     let mut dice = Dice(0x0fed_cba9_8765_4321);
+    let mut releases = Dice(0x1a4d_5ca7_e2f1_1967);
     for number in 0..3_000 {
         let example = dice.table_with_goals(9, 9, 6, 60, 2 + number % 5);
         let what = format!("table {number} of up to 9 jobs");
-        match least_of(&example) {
-            Ok((least, starts)) => check_least_plan(tally, &what, &example, least, &starts),
-            Err(refusal) => tally.same(&what, Err(refusal), plan_of(&example)),
-        }
+        check_least(tally, &what, &example);
+        check_least(tally, &(what + ", released"), &releases.with_releases(&example, 40));
+    }
+}
+
+fn check_least(tally: &mut Tally, what: &str, example: &Example) {
+    match least_of(example) {
+        Ok((least, starts)) => check_least_plan(tally, what, example, least, &starts),
+        Err(refusal) => tally.same(what, Err(refusal), plan_of(example)),
     }
 }
 
@@ -256,6 +299,16 @@ fn test_offered_plans(tally: &mut Tally) {
     tally.same("first pair by lower number", offer(&clash, &[0, 1, 1]), refused(12, 0));
     tally.same("pair of higher numbers", offer(&clash, &[0, 2, 1]), refused(12, 0));
     tally.same("own condition deleted", offer(&clash, &[1, 3, 0]), Ok(()));
+    let late = jobs_u(&[2, 3, 4], 14).released(&[0, 8, 6, 5]);
+    tally.same("released", offer(&late, &[0, 8, 6, 5]), Ok(()));
+    tally.same("one before the release", offer(&late, &[0, 8, 5, 5]), refused(21, 2));
+    tally.same("lowest job", offer(&late, &[0, 7, 5, 4]), refused(21, 1));
+    tally.same("out before its release", offer(&late, &[OUT, 0, OUT, OUT]), refused(21, 1));
+    tally.same("late before early", offer(&late, &[0, 0, 7, 5]), refused(11, 2));
+    tally.same("early before overlap", offer(&late, &[0, 8, 5, 7]), refused(21, 2));
+    tally.same("overlap in time", offer(&late, &[0, 8, 6, 7]), refused(12, 1));
+    tally.same("early before a condition", offer(&late, &[OUT, 8, 6, 4]), refused(21, 3));
+    tally.same("early before a goal", offer(&late, &[0, OUT, 5, 5]), refused(21, 2));
 }
 
 fn test_supports_and_pairs(tally: &mut Tally) {
@@ -283,8 +336,11 @@ fn test_supports_and_pairs(tally: &mut Tally) {
     tally.same("pairs listed", pairs[..10].to_vec(), vec![0, 1, 0, 2, 0, 3, 3, 1, 9, 9]);
     test_deleter_between(tally);
     let mut dice = Dice(77);
+    let mut releases = Dice(1_977);
     for number in 0..2_000 {
-        check_random_pairs(tally, &dice.table_with_goals(7, 7, 4, 30, 2 + number % 4));
+        let example = dice.table_with_goals(7, 7, 4, 30, 2 + number % 4);
+        check_random_pairs(tally, &example);
+        check_random_pairs(tally, &releases.with_releases(&example, 20));
     }
 }
 
@@ -350,8 +406,47 @@ fn test_estimates(tally: &mut Tally) {
         bound: 0,
     };
     tally.same("estimates in a ring", estimated(&example), Ok(vec![16, 976, 9, 0, 5]));
-    let ring = Example { opening: 0, ..example };
+    let ring = Example { opening: 0, ..example.clone() };
     tally.same("never", estimated(&ring), Ok(vec![OUT, OUT, OUT, 0, 5]));
+    let late = jobs_u(&[], 9_999).released(&[0, 0, 6, 0]);
+    tally.same("estimates of the late crate", estimated(&late), Ok(vec![0, 4, 6, 4, 5]));
+    let releases = [0, 2_000, 9, 10];
+    let both = estimated(&example.released(&releases));
+    tally.same("the greater of both", both, Ok(vec![26, 2_000, 19, 10, 5]));
+    tally.same("released, never", estimated(&ring.released(&releases)), Ok(vec![OUT, OUT, OUT, 10, 5]));
+    tally.same("as late as can be", estimated(&chain(24, false).released(&[2_880; 24])), Ok(late_chain()));
+    test_estimates_against_start_vectors(tally);
+}
+
+/// The estimates of a chain of 24 whose jobs are all released at 2,880.
+fn late_chain() -> Vec<u16> {
+    let jobs = chain(24, false).jobs;
+    let sums = jobs.iter().scan(2_880, |finish, job| {
+        *finish += job.duration;
+        Some(*finish - job.duration)
+    });
+    sums.chain([5]).collect()
+}
+
+/// Without deletions a job's estimate is the earliest start that any plan gives it.
+fn test_estimates_against_start_vectors(tally: &mut Tally) {
+    let mut dice = Dice(0x6e57_1a7e_0b0e_0a1d);
+    for _ in 0..1_500 {
+        let mut example = dice.table(4, 5, 3, 9);
+        example.jobs.iter_mut().for_each(|job| job.deletions = 0);
+        let released = dice.with_releases(&example, 6);
+        for example in [example, released] {
+            let problem = check_bounded_table(&example.given()).expect("random tables pass the checks");
+            let mut found = job_estimates(&problem);
+            // What ends after the bound is in no vector.
+            for (estimate, job) in found.iter_mut().zip(problem.jobs) {
+                if *estimate != OUT && *estimate + job.duration > problem.bound {
+                    *estimate = OUT;
+                }
+            }
+            tally.same("estimates by start vectors", found, brute::earliest_starts(&problem));
+        }
+    }
 }
 
 fn test_settling(tally: &mut Tally) {
@@ -375,9 +470,42 @@ fn test_settling(tally: &mut Tally) {
     tally.same("short pairs", short, refused(3, 0));
     let endless = settle(&jobs_u(&[], 9).given(), 1, u64::MAX, &[0, 1, 0], &mut [0; 4]);
     tally.same("more pairs than bytes", endless, refused(3, 0));
+    test_settling_released(tally);
+    test_settling_against_start_vectors(tally);
 }
 
-/// Refusals 3 to 9 in the order of the numbers, each with its place.
+/// A job of the set starts at its release or behind a first job, whichever is later.
+fn test_settling_released(tally: &mut Tally) {
+    let settled = |bound| {
+        let example = jobs_u(&[], bound).released(&[2, 5, 2_880, 9]);
+        let mut table = vec![8; 5];
+        settle(&example.given(), 0b1011, 2, &[0, 1, 1, 3], &mut table).map(|_| table)
+    };
+    tally.same("settled from releases", settled(12), Ok(vec![2, 6, OUT, 9, 8]));
+    tally.same("no room behind a release", settled(11), refused(16, 0));
+}
+
+/// Few jobs, few pairs, circles among them.
+fn test_settling_against_start_vectors(tally: &mut Tally) {
+    let mut dice = Dice(0x05e7_71e5_7a27_5011);
+    for _ in 0..3_000 {
+        let example = dice.table(4, 3, 3, 9);
+        let example = dice.with_releases(&example, 6);
+        let problem = check_bounded_table(&example.given()).expect("random tables pass the checks");
+        let set = dice.next() & ((1 << problem.jobs.len()) - 1);
+        let inside: Vec<usize> = rules::members(set).collect();
+        let pairs: Vec<u8> = match inside.len() as u64 {
+            0 => vec![],
+            jobs => (0..2 * dice.below(4)).map(|_| inside[dice.below(jobs) as usize] as u8).collect(),
+        };
+        let mut table = vec![7; problem.jobs.len()];
+        let found = settle(&example.given(), set, pairs.len() as u64 / 2, &pairs, &mut table).map(|_| table);
+        let expected = brute::settled(&problem, set, &pairs).ok_or(Refusal { number: 16, place: 0 });
+        tally.same("settled by start vectors", found, expected);
+    }
+}
+
+/// Refusals 3 to 9 in the order of the numbers, and 20 between 6 and 7, each with its place.
 fn test_table_checks(tally: &mut Tally) {
     let mut example = jobs_u(&[2], 2_881);
     tally.same("9", plan_of(&example), refused(9, 0));
@@ -388,6 +516,12 @@ fn test_table_checks(tally: &mut Tally) {
     tally.same("7 in the goals", plan_of(&example), refused(7, 24));
     example.jobs[3].conditions |= word(&[63]);
     tally.same("7", plan_of(&example), refused(7, 3));
+    example.jobs[2].release = 2_880;
+    tally.same("the last release that is taken", plan_of(&example), refused(7, 3));
+    example.jobs[3].release = 65_535;
+    tally.same("20, far over", plan_of(&example), refused(20, 3));
+    example.jobs[2].release = 2_881;
+    tally.same("20", plan_of(&example), refused(20, 2));
     example.jobs[1].duration = 0;
     tally.same("6", plan_of(&example), refused(6, 1));
     example.jobs.resize(25, Job::default());
@@ -450,6 +584,7 @@ fn test_files(tally: &mut Tally) {
 /// Older bytes before, a save, bytes behind in the buffer; then notes between records and trailer.
 fn check_round_trip(tally: &mut Tally, dice: &mut Dice) {
     let example = dice.table(24, 64, 960, 2_880);
+    let example = dice.with_releases(&example, 2_880);
     let used = dice.below(200) as usize;
     let length = used + 32 * example.jobs.len() + 24;
     let before: Vec<u8> = (0..length + dice.below(40) as usize).map(|_| dice.next() as u8).collect();
@@ -489,13 +624,17 @@ fn test_reader(tally: &mut Tally) {
     tally.same("reader 2, near", changed(&[(trailer + 20, 127)]), refused(2, 0));
     tally.same("reader 2, far", changed(&[(trailer + 20, 129)]), refused(2, 0));
     tally.same("reader 2, very far", changed(&[(trailer + 23, 255)]), refused(2, 0));
-    for byte in 26..32 {
-        tally.same("reader 2, six bytes", changed(&[(3 * 32 + byte, 1), (trailer + 19, 65)]), refused(2, 0));
+    for byte in 28..32 {
+        tally.same("reader 2, four bytes", changed(&[(3 * 32 + byte, 1), (trailer + 19, 65)]), refused(2, 0));
     }
     tally.same("reader 3", read_file(&file, &mut [Job::default(); 3]), refused(3, 0));
     tally.same("reader 4", changed(&[(trailer + 19, 65)]), refused(4, 0));
     tally.same("reader 6", changed(&[(32 + 24, 0)]), refused(6, 1));
     tally.same("reader 7", changed(&[(64, 32)]), refused(7, 2));
+    tally.same("reader, release 2,880", changed(&[(58, 0x40), (59, 0x0b)]), Ok(saved_of(&example)));
+    tally.same("reader 20", changed(&[(58, 0x41), (59, 0x0b)]), refused(20, 1));
+    tally.same("reader 20 before 7", changed(&[(64, 32), (91, 255)]), refused(20, 2));
+    tally.same("reader 6 before 20", changed(&[(32 + 24, 0), (27, 255)]), refused(6, 1));
     tally.same("reader 7, opening", changed(&[(trailer + 7, 128)]), refused(7, 24));
     tally.same("reader 8", changed(&[(64 + 16, 8)]), refused(8, 2));
     tally.same("reader 9", changed(&[(trailer + 17, 255)]), refused(9, 0));
@@ -503,10 +642,10 @@ fn test_reader(tally: &mut Tally) {
     tally.same("reader 2 before 5", read(&file_of_many(255, 1)), refused(2, 0));
 }
 
-/// A file of more jobs than allowed, with the last of the six bytes of its last record as given.
+/// A file of more jobs than allowed, with the last byte of its last record as given.
 fn file_of_many(count: u8, last: u8) -> Vec<u8> {
     let mut file: Vec<u8> =
-        (0..count).flat_map(|_| [job_bytes(&job(&[], &[0], &[], 1)), vec![0; 6]].concat()).collect();
+        (0..count).flat_map(|_| [job_bytes(&job(&[], &[0], &[], 1)), vec![0; 4]].concat()).collect();
     *file.last_mut().expect("there are records") = last;
     file.extend([0; 16]);
     file.extend([9, 0, count, 1]);
@@ -539,6 +678,8 @@ fn test_writer(tally: &mut Tally) {
     tally.same("writer 3, use beyond the buffer", write(&given, 10, 20), (refused(3, 0), false));
     tally.same("writer 3, records", write(&Given { count: 5, ..given }, 900, 0), (refused(3, 0), false));
     tally.same("writer 4", write(&Given { atoms: 0, ..given }, 900, 0), (refused(4, 0), false));
+    let late = example.released(&[0, 0, 2_881]);
+    tally.same("writer 20", write(&late.given(), 900, 0), (refused(20, 2), false));
     tally.same("writer 9", write(&Given { bound: 2_881, ..given }, 900, 0), (refused(9, 0), false));
     tally.same("writer, no jobs", write(&Given { count: 0, ..given }, 24, 0).0, Ok(24));
 }
@@ -662,6 +803,9 @@ fn test_marks(tally: &mut Tally) {
 fn test_bench(tally: &mut Tally) {
     let text = "least 12\n0 4 0\n4 12 2\n4 7 3\n7 9 1\n0 before 1\n0 before 2\n0 before 3\n3 before 1\n";
     tally.same("bench P3", bench::text(&file_of(&jobs_u(&[2, 3, 4], 12))).as_str(), text);
+    let text = "least 14\n0 4 0\n4 7 3\n6 14 2\n7 9 1\n0 before 1\n0 before 2\n0 before 3\n3 before 1\n";
+    let late = jobs_u(&[2, 3, 4], 2_880).released(&[0, 0, 6, 0]);
+    tally.same("bench of the late crate", bench::text(&file_of(&late)).as_str(), text);
     tally.same("bench P2", bench::text(&file_of(&jobs_u(&[2, 3], 11))).as_str(), "refused 10 0\n");
     tally.same("bench P5", bench::text(&file_of(&jobs_u(&[0], 2_880))).as_str(), "least 0\n");
     tally.same("bench of nothing", bench::text(&[]).as_str(), "refused 2 0\n");
@@ -673,7 +817,7 @@ fn test_bench(tally: &mut Tally) {
 /// A call with jobs U, as the stream has it.
 fn call_bytes(head: [u64; 16], records: &[Job], table: &[u8]) -> Vec<u8> {
     let mut bytes: Vec<u8> = head.iter().flat_map(|word| word.to_le_bytes()).collect();
-    bytes.extend(records.iter().flat_map(|job| [job_bytes(job), vec![7; 6]].concat()));
+    bytes.extend(records.iter().flat_map(|job| [job_bytes(job), vec![7; 4]].concat()));
     bytes.extend(table);
     bytes
 }
@@ -685,6 +829,9 @@ fn test_calls(tally: &mut Tally) {
     let mut stream = Vec::new();
     stream.extend(call_bytes(head(1, 0, 0, 8, 0, 0), &jobs, &starts));
     stream.extend(call_bytes(head(2, 0, 0, 0, 5, 0xab), &jobs, &[]));
+    let late = jobs_u(&[], 0).released(&[0, 8, 2_881, 0]).jobs;
+    stream.extend(call_bytes(head(1, 0, 0, 8, 0, 0), &late, &starts));
+    stream.extend(call_bytes([1, 2, 5, 1, 0, 12, 0, 0, 4, 8, 0, 0, 0, 0, 0, 0], &late, &starts));
     stream.extend(call_bytes(head(3, 0, 0, 0, 4, 0), &jobs, &[]));
     stream.extend(call_bytes(head(3, 0, 0, 0, 3, 0), &jobs, &[]));
     stream.extend(call_bytes(head(4, 0, 0, 8, 2, 1), &jobs, &starts));
@@ -699,6 +846,8 @@ fn test_calls(tally: &mut Tally) {
     let expected = [
         "0 0 0",
         "0 0 0 0000070004000400abab",
+        "20 2 0",
+        "21 1 0",
         "0 0 12 0000070004000400",
         "3 0 65535 000000000000",
         "3 0 0 0101",

@@ -1,5 +1,4 @@
-use Rattle.distances.proofs.Rows.{row-apart}
-use Rattle.tables.specs.Tables.{problem}
+use Rattle.distances.proofs.Rows.{row-free}
 use borrow.Author.Needs.{needs}
 use Rattle.distances.proofs.row.Statement.{statement}
 use Rattle.distances.proofs.row.Tie as tie
@@ -10,7 +9,7 @@ returns c =
     let w = c .before .before .before .lacks in
     let d = c .before .dearest in
     let a = c .before .before .before .before .before .args in
-    row-apart (problem (a .t1) (a .q)) (a .a) (w .result) (e .result) (d .result) (c .behind .result) (c .before .before .before .before .before .pre .0) (w .ensures) (e .ensures) (d .ensures) (c .behind .ensures)
+    λ l. row-free l (a .t1) (a .q) (a .a) (w .result) (e .result) (d .result) (c .behind .result) (c .before .before .before .before .before .pre .0) (w .ensures) (e .ensures) (d .ensures) (c .behind .ensures)
 
 pub row-spec : {M : Type 1} → statement M
 row-spec =

@@ -17,7 +17,7 @@ earliest-spec =
     (tie.spec
     (λ c κs. search needs)
     (λ c. fills-fault (call-checks (ltb (length (now (c .before .before .before .before .before .args .out))) (c .before .before .before .before .before .args .q .jobs)) 0 (c .before .before .before .before .before .args .l) (c .before .before .before .before .before .args .q)) _ 0 _ _ (c .before .before .call-fault .ensures .says) refl (c .if1 .taken))
-    (λ c κs. c .before .before .call-fault .ensures .order (c .if1 .left) .few)
+    (λ c κs. let k = c .before .before .call-fault .ensures .order (c .if1 .left) in (k .few, k .released))
     (λ c κs. (c .before .before .before .before .call-fault .ensures .order (c .before .before .if1 .left) .few, at-most _ _ (c .before .before .before .before .call-fault .ensures .order (c .before .before .if1 .left) .room)))
     (λ c κs. search needs)
     (λ c. search needs)

@@ -1,6 +1,6 @@
 use borrow.Author.Needs.{needs}
-use mathlib.Core.Path.{_≡_, refl, _∙_}
-use Prim.Native.Nat.{ℕ, _-_, _≤_, _<_}
+use mathlib.Core.Path.{_≡_, refl, ap, _∙_}
+use Prim.Native.Nat.{ℕ, _-_, _≤_, _<_, max}
 use native.Mathlib.Omega.{arith}
 use lib.ListN.{length, length-set}
 use Rattle.tables.specs.Tables.{jobAt, problem}
@@ -12,16 +12,16 @@ use Rattle.estimates.proofs.round.Statement.{statement}
 use Rattle.estimates.proofs.round.Tie as tie
 
 abbrev Inv-loop : tie.InvT-loop
-Inv-loop l costs n next₀ i₀ next i = (i ≤ n) × (length next ≡ 24) × ((k : ℕ) → k < i → entry next k ≡ greatest (jobAt l k .conditions) costs 64)
+Inv-loop l costs n next₀ i₀ next i = (i ≤ n) × (length next ≡ 24) × ((k : ℕ) → k < i → entry next k ≡ max (jobAt l k .release) (greatest (jobAt l k .conditions) costs 64))
 
 abbrev μ-loop : tie.MeasureT-loop
 μ-loop l costs n next₀ i₀ next i = n - i
 
 loop-again : tie.Need-loop-again Inv-loop μ-loop
-loop-again c = (omega arith, simp length-set (c .before .before .before .loop .inv .1), stored _ (c .before .before .before .loop .next) (c .before .before .before .loop .i) _ (omega (arith, c .before .before .before .loop .inv .1)) (c .before .before .before .loop .inv .2) (c .greatest .ensures))
+loop-again c = (omega arith, simp length-set (c .before .before .before .before .loop .inv .1), stored _ (c .before .before .before .before .loop .next) (c .before .before .before .before .loop .i) _ (omega (arith, c .before .before .before .before .loop .inv .1)) (c .before .before .before .before .loop .inv .2) (c .estimate .ensures ∙ ap (max _) (c .before .greatest .ensures)))
 
 returns : tie.Need-returns Inv-loop μ-loop
-returns c = λ k h. c .before .loop .inv .2 k (omega arith) ∙ greatest-is (problem (c .before .before .before .args .t1) (c .before .before .before .args .q)) refl (λ i. refl) (entry (c .before .before .before .args .est)) (c .before .before .costs .result) k 64 (omega arith) (c .before .before .costs .ensures)
+returns c = λ k h. c .before .loop .inv .2 k (omega arith) ∙ greatest-is (problem (c .before .before .before .args .t1) (c .before .before .before .args .q)) refl (entry (c .before .before .before .args .est)) (c .before .before .costs .result) k 64 (omega arith) (c .before .before .costs .ensures)
 
 pub round-spec : {M : Type 1} → statement M
 round-spec =
@@ -34,8 +34,9 @@ round-spec =
     (λ c. search needs)
     (λ c. search needs)
     (λ c κs. search needs)
+    (λ c κs. search needs)
     (λ c. search needs)
-    (λ c. omega (arith, c .before .before .before .loop .inv .1))
+    (λ c. omega (arith, c .before .before .before .before .loop .inv .1))
     (λ c. search needs)
     (λ c. search needs)
     loop-again

@@ -8,20 +8,20 @@ use Rattle.jobfile_write.proofs.put_record.Tie as tie
 
 returns : tie.Need-returns
 returns c =
-    let a = c .before .before .before .before .before .before .before .before .before .before .before .before .before .before .before .before .before .before .before .before .before .before .args in
+    let a = c .before .before .before .before .before .before .before .before .before .before .before .before .before .before .before .before .before .before .before .before .before .before .before .before .before .before .before .args in
     put-fields (recordFields (a .a)) [] (a .out .now) 0 refl refl (
       _,
-      c .before .before .before .before .before .before .before .before .before .before .before .before .before .before .before .before .before .before .before .put .ensures,
+      c .before .before .before .before .before .before .before .before .before .before .before .before .before .before .before .before .before .before .before .before .before .before .before .before .put .ensures,
       (
         _,
-        c .before .before .before .before .before .before .before .before .before .before .before .before .before .before .before .put2 .ensures,
+        c .before .before .before .before .before .before .before .before .before .before .before .before .before .before .before .before .before .before .before .before .put2 .ensures,
         (
           _,
-          c .before .before .before .before .before .before .before .before .before .before .before .put3 .ensures,
+          c .before .before .before .before .before .before .before .before .before .before .before .before .before .before .before .before .put3 .ensures,
           (
             _,
-            c .before .before .before .before .before .before .put4 .ensures,
-            (_, c .before .before .put5 .ensures, refl),
+            c .before .before .before .before .before .before .before .before .before .before .before .put4 .ensures,
+            (_, c .before .before .before .before .before .before .put5 .ensures, (_, c .before .before .put6 .ensures, refl)),
           ),
         ),
       ),
@@ -33,6 +33,8 @@ put-record-spec =
     (tie.spec
     (λ c κs. search needs)
     (λ c κs. search needs)
+    (λ c κs. search needs)
+    (λ c. search needs)
     (λ c κs. search needs)
     (λ c. search needs)
     (λ c κs. search needs)

@@ -1,4 +1,4 @@
-use Rattle.outset.proofs.Strong.{sets-out}
+use Rattle.outset.proofs.Strong.{released, sets-out}
 use borrow.Author.Needs.{needs}
 use Rattle.outset.proofs.set_out.Statement.{statement}
 use Rattle.outset.proofs.set_out.Tie as tie
@@ -14,7 +14,7 @@ returns c =
     let s = table .before .before .reachable in
     let begin = table .before .before .before in
     sets-out (begin .args .l) (begin .args .q) (begin .pre .1) (s .result .rows) (s .ensures) (table .e-table .result) (table .e-table .ensures) (e .result) (wait .result) (lists .result) _ _ (g .result)
-    (begin .pre .0) (e .ensures) (wait .ensures) (lists .ensures) (waits .put-waits .ensures) (c .put-leads .ensures) (g .ensures)
+    (begin .pre .0) (begin .pre .2) (e .ensures) (wait .ensures) (lists .ensures) (waits .put-waits .ensures) (c .put-leads .ensures) (g .ensures)
 
 pub set-out-spec : {M : Type 1} → statement M
 set-out-spec =
@@ -23,7 +23,7 @@ set-out-spec =
     (λ c κs. search needs)
     (λ c κs. search needs)
     (λ c κs. search needs)
-    (λ c κs. search needs)
+    (λ c κs. let begin = c .before .before .before in (begin .pre .0, released (begin .args .l) (begin .args .q) (begin .pre .1) (c .before .before .reachable .result .rows) (c .before .before .reachable .ensures) (c .e-table .result) (c .e-table .ensures) (begin .pre .2)))
     (λ c κs. search needs)
     (λ c κs. search needs)
     (λ c κs. search needs)

@@ -66,7 +66,7 @@ attempt-returns-2 t c = let d = c .before .before .before .before .before .befor
     ans-second (c .before .before .before .before .before .before .before .before .before .before .before .before .before .before .before .before .args .c) (d .before .before .taken .ensures) (ans-pruned (d .pruned .ensures .prunes) (c .before .before .before .before .before .before .before .before .pick .ensures)) (c .before .before .before .before .before .before .before .if1 .left) (e .before .before .dropped .ensures) (ans-pruned (e .pruned2 .ensures .prunes) (c .pick2 .ensures))
 
 pick-leaf-requires : (t : ℕ) → pick-lts.Need-leaf-requires (pick-claims t) (pick-at t) pick.Post
-pick-leaf-requires t c κs = record { steady = c .before .before .before .before .before .before .before .pre .1 .0 .steady (not-false _ (c .before .before .before .before .before .before .if1 .left)); whole = λ P l. c .before .before .before .before .flaw .ensures P l .fine (c .before .before .if2 .taken) }
+pick-leaf-requires t c κs = record { steady = c .before .before .before .before .before .before .before .pre .1 .0 .steady (not-false _ (c .before .before .before .before .before .before .if1 .left)); begun = c .before .before .before .before .before .before .before .pre .1 .0 .begun (not-false _ (c .before .before .before .before .before .before .if1 .left)); whole = λ P l. c .before .before .before .before .flaw .ensures P l .fine (c .before .before .if2 .taken) }
 
 pick-returns-3 : (t : ℕ) → pick-lts.Need-returns-3 (pick-claims t) (pick-at t) pick.Post
 pick-returns-3 t c = refused (λ P l. c .before .before .before .before .flaw .ensures P l .dead (c .if3 .taken))

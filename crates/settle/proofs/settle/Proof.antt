@@ -1,14 +1,12 @@
 use mathlib.Core.Path.{refl}
 use mathlib.Core.Logic.{inl, inr}
-use native.Mathlib.Omega.{arith}
 use borrow.Author.Needs.{needs}
 use borrow.Author.Tests.{not-true, not-false}
 use denote.Ref.{now}
-use lib.ListN.{length, getD-replicate}
+use lib.ListN.{length}
 use Rattle.refusals.specs.Refusals.{accepted, refused}
 use Rattle.tables.proofs.Fills.{fills-fault, fills-behind}
 use Rattle.entries.specs.Entries.{entry}
-use Rattle.times.proofs.Laws.{found-zero}
 use Rattle.settle.proofs.Faults.{all-checks}
 use Rattle.settle.proofs.settle.Statement.{statement}
 use Rattle.settle.proofs.settle.Tie as tie
@@ -22,15 +20,13 @@ settle-spec =
     (λ c κs. c .before .before .settle-fault .ensures .order (c .if1 .left) .ready)
     (λ c κs. search needs)
     (λ c. let a = c .before .before .before .before .before .before .before .before .args in
-    let few = c .before .before .before .before .before .settle-fault .ensures .order (c .before .before .before .if1 .left) .ready .few in
-    let f = found-zero (a .l) (a .q) (now (a .pairs)) _ (c .before .before .settle-from .result) (λ i h. getD-replicate 24 i 0 0 (omega (arith, few))) (c .before .before .settle-from .ensures) in
+    let f = c .before .before .least-starts .ensures in
     fills-behind (all-checks (a .l) (a .q) (now (a .pairs)) (length (now (a .out)))) _ 0 _ _ (c .before .before .before .before .before .settle-fault .ensures .says) (c .before .before .before .if1 .left)
     (refused 16 0) 0 (λ i. 0) (refl, inr (refl, f .none (not-true _ (c .before .if2 .taken)))) (c .refuse .ensures) refl)
     (λ c κs. let s = c .before .before .before .before .before .before .settle-fault .ensures .order (c .before .before .before .before .if1 .left) in (s .ready .few, s .wide))
     (λ c κs. search needs)
     (λ c. search needs)
     (λ c. let a = c .before .before .before .before .before .before .before .before .before .before .before .before .before .args in
-    let few = c .before .before .before .before .before .before .before .before .before .before .settle-fault .ensures .order (c .before .before .before .before .before .before .before .before .if1 .left) .ready .few in
-    let f = found-zero (a .l) (a .q) (now (a .pairs)) _ (c .before .before .before .before .before .before .before .settle-from .result) (λ i h. getD-replicate 24 i 0 0 (omega (arith, few))) (c .before .before .before .before .before .before .before .settle-from .ensures) in
+    let f = c .before .before .before .before .before .before .before .least-starts .ensures in
     fills-behind (all-checks (a .l) (a .q) (now (a .pairs)) (length (now (a .out)))) _ 0 _ _ (c .before .before .before .before .before .before .before .before .before .before .settle-fault .ensures .says) (c .before .before .before .before .before .before .before .before .if1 .left)
-    accepted 0 (entry (c .before .before .before .before .before .before .before .settle-from .result .starts)) (refl, inl (refl, f .some (not-false _ (c .before .before .before .before .before .before .if2 .left)))) (c .done .ensures) (c .before .before .before .fill .ensures)))
+    accepted 0 (entry (c .before .before .before .before .before .before .before .least-starts .result .starts)) (refl, inl (refl, f .some (not-false _ (c .before .before .before .before .before .before .if2 .left)))) (c .done .ensures) (c .before .before .before .fill .ensures)))

@@ -8,12 +8,15 @@ returns : tie.Need-returns
 returns c = simp (eq-eqb _ _ (c .before .if1 .taken)) (c .outside .ensures)
 
 returns-2 : tie.Need-returns-2
-unfolding jobStrays
-returns-2 c = simp (ne-eqb _ _ (c .before .before .before .if1 .left), eq-eqb _ _ (c .before .before .if2 .taken)) (c .job-strays .ensures)
+returns-2 c = simp (ne-eqb _ _ (c .before .before .if1 .left), eq-eqb _ _ (c .before .if2 .taken))
 
 returns-3 : tie.Need-returns-3
+unfolding jobStrays
+returns-3 c = simp (ne-eqb _ _ (c .before .before .before .before .if1 .left), ne-eqb _ _ (c .before .before .before .if2 .left), eq-eqb _ _ (c .before .before .if3 .taken)) (c .job-strays .ensures)
+
+returns-4 : tie.Need-returns-4
 unfolding undoes
-returns-3 c = simp (ne-eqb _ _ (c .before .before .if1 .left), ne-eqb _ _ (c .before .if2 .left)) (c .meets .ensures)
+returns-4 c = simp (ne-eqb _ _ (c .before .before .before .if1 .left), ne-eqb _ _ (c .before .before .if2 .left), ne-eqb _ _ (c .before .if3 .left)) (c .meets .ensures)
 
 pub job-fails-spec : {M : Type 1} → statement M
 job-fails-spec =
@@ -23,8 +26,9 @@ job-fails-spec =
     (λ c. search needs)
     (λ c κs. search needs)
     returns
+    returns-2
     (λ c. search needs)
     (λ c κs. search needs)
-    returns-2
+    returns-3
     (λ c κs. search needs)
-    returns-3)
+    returns-4)

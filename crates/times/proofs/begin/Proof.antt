@@ -3,20 +3,19 @@ use mathlib.Core.Path.{_≡_}
 use Prim.Native.Nat.{_-_, _≤_}
 use native.Mathlib.Omega.{arith}
 use lib.ListN.{length, length-set}
-use Rattle.entries.specs.Entries.{entry}
 use Rattle.entries.proofs.Laws.{stored}
 use Rattle.times.specs.Steps.{Begins}
 use Rattle.times.proofs.begin.Statement.{statement}
 use Rattle.times.proofs.begin.Tie as tie
 
 abbrev Inv-loop : tie.InvT-loop
-Inv-loop q lo n t₀ j₀ t j = (j ≤ n) × (length t ≡ 24) × Begins q (entry lo) t j
+Inv-loop q l n t₀ j₀ t j = (j ≤ n) × (length t ≡ 24) × Begins l q t j
 
 abbrev μ-loop : tie.MeasureT-loop
-μ-loop q lo n t₀ j₀ t j = n - j
+μ-loop q l n t₀ j₀ t j = n - j
 
 loop-again : tie.Need-loop-again Inv-loop μ-loop
-loop-again c = (omega arith, simp length-set (c .before .before .loop .inv .1), stored _ (c .before .before .loop .t) (c .before .before .loop .j) _ (omega (arith, c .before .before .loop .inv .1)) (c .before .before .loop .inv .2) (c .begin-at .ensures))
+loop-again c = (omega arith, simp length-set (c .before .before .before .loop .inv .1), stored _ (c .before .before .before .loop .t) (c .before .before .before .loop .j) _ (omega (arith, c .before .before .before .loop .inv .1)) (c .before .before .before .loop .inv .2) (c .begin-at .ensures))
 
 pub begin-spec : {M : Type 1} → statement M
 begin-spec =
@@ -29,7 +28,7 @@ begin-spec =
     (λ c. search needs)
     (λ c κs. search needs)
     (λ c. search needs)
-    (λ c. omega (arith, c .before .before .loop .inv .1))
+    (λ c. omega (arith, c .before .before .before .loop .inv .1))
     (λ c. search needs)
     (λ c. search needs)
     loop-again

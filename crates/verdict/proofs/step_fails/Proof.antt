@@ -1,13 +1,17 @@
 use borrow.Author.Needs.{needs}
 use borrow.Author.Tests.{eq-eqb, ne-eqb}
 use Rattle.rules.specs.Plans.{inPlan}
-use Rattle.rules.specs.Verdicts.{late}
+use Rattle.rules.specs.Verdicts.{late, early}
 use Rattle.verdict.proofs.step_fails.Statement.{statement}
 use Rattle.verdict.proofs.step_fails.Tie as tie
 
 returns : tie.Need-returns
 unfolding late inPlan
 returns c = simp (eq-eqb _ _ (c .before .before .before .if1 .taken)) (c .ends-after .ensures)
+
+returns-2 : tie.Need-returns-2
+unfolding early inPlan
+returns-2 c = simp (ne-eqb _ _ (c .before .before .before .before .if1 .left), eq-eqb _ _ (c .before .before .before .if2 .taken)) (c .starts-early .ensures)
 
 pub step-fails-spec : {M : Type 1} → statement M
 step-fails-spec =
@@ -19,7 +23,13 @@ step-fails-spec =
     (λ c. search needs)
     (λ c κs. search needs)
     returns
+    (λ c. search needs)
+    (λ c. search needs)
+    (λ c. search needs)
+    (λ c. search needs)
     (λ c κs. search needs)
-    (λ c. simp (ne-eqb _ _ (c .before .before .if1 .left), eq-eqb _ _ (c .before .if2 .taken)) (c .clashes .ensures))
+    returns-2
     (λ c κs. search needs)
-    (λ c. simp (ne-eqb _ _ (c .before .before .if1 .left), ne-eqb _ _ (c .before .if2 .left)) (c .unready .ensures)))
+    (λ c. simp (ne-eqb _ _ (c .before .before .before .if1 .left), ne-eqb _ _ (c .before .before .if2 .left), eq-eqb _ _ (c .before .if3 .taken)) (c .clashes .ensures))
+    (λ c κs. search needs)
+    (λ c. simp (ne-eqb _ _ (c .before .before .before .if1 .left), ne-eqb _ _ (c .before .before .if2 .left), ne-eqb _ _ (c .before .if3 .left)) (c .unready .ensures)))

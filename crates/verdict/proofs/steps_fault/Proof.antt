@@ -12,19 +12,23 @@ returns c = c .refuse .ensures ∙ said 0 0 (at-hit _ _ 11 _ (c .before .before 
 
 returns-2 : tie.Need-returns-2
 unfolding planChecks
-returns-2 c = c .refuse2 .ensures ∙ said 0 0 (at-miss _ _ 11 _ (c .before .before .before .before .first-step .ensures) (c .before .before .before .if1 .left) ∙ at-hit _ _ 12 _ (c .before .before .first-step2 .ensures) (c .before .if2 .taken))
+returns-2 c = c .refuse2 .ensures ∙ said 0 0 (at-miss _ _ 11 _ (c .before .before .before .before .first-step .ensures) (c .before .before .before .if1 .left) ∙ at-hit _ _ 21 _ (c .before .before .first-step2 .ensures) (c .before .if2 .taken))
 
 returns-3 : tie.Need-returns-3
 unfolding planChecks
-returns-3 c = c .refuse3 .ensures ∙ said 0 0 (at-miss _ _ 11 _ (c .before .before .before .before .before .before .first-step .ensures) (c .before .before .before .before .before .if1 .left) ∙ at-miss _ _ 12 _ (c .before .before .before .before .first-step2 .ensures) (c .before .before .before .if2 .left) ∙ at-hit _ _ 13 _ (c .before .before .first-step3 .ensures) (c .before .if3 .taken))
+returns-3 c = c .refuse3 .ensures ∙ said 0 0 (at-miss _ _ 11 _ (c .before .before .before .before .before .before .first-step .ensures) (c .before .before .before .before .before .if1 .left) ∙ at-miss _ _ 21 _ (c .before .before .before .before .first-step2 .ensures) (c .before .before .before .if2 .left) ∙ at-hit _ _ 12 _ (c .before .before .first-step3 .ensures) (c .before .if3 .taken))
 
 returns-4 : tie.Need-returns-4
 unfolding planChecks
-returns-4 c = c .refuse4 .ensures ∙ said 0 0 (at-miss _ _ 11 _ (c .before .before .before .before .before .before .before .before .first-step .ensures) (c .before .before .before .before .before .before .before .if1 .left) ∙ at-miss _ _ 12 _ (c .before .before .before .before .before .before .first-step2 .ensures) (c .before .before .before .before .before .if2 .left) ∙ at-miss _ _ 13 _ (c .before .before .before .before .first-step3 .ensures) (c .before .before .before .if3 .left) ∙ at-hit _ _ 14 _ (c .before .before .first-missing .ensures) (c .before .if4 .taken))
+returns-4 c = c .refuse4 .ensures ∙ said 0 0 (at-miss _ _ 11 _ (c .before .before .before .before .before .before .before .before .first-step .ensures) (c .before .before .before .before .before .before .before .if1 .left) ∙ at-miss _ _ 21 _ (c .before .before .before .before .before .before .first-step2 .ensures) (c .before .before .before .before .before .if2 .left) ∙ at-miss _ _ 12 _ (c .before .before .before .before .first-step3 .ensures) (c .before .before .before .if3 .left) ∙ at-hit _ _ 13 _ (c .before .before .first-step4 .ensures) (c .before .if4 .taken))
 
 returns-5 : tie.Need-returns-5
 unfolding planChecks
-returns-5 c = c .done .ensures ∙ said 0 0 (at-miss _ _ 11 _ (c .before .before .before .before .before .before .before .before .first-step .ensures) (c .before .before .before .before .before .before .before .if1 .left) ∙ at-miss _ _ 12 _ (c .before .before .before .before .before .before .first-step2 .ensures) (c .before .before .before .before .before .if2 .left) ∙ at-miss _ _ 13 _ (c .before .before .before .before .first-step3 .ensures) (c .before .before .before .if3 .left) ∙ at-miss _ _ 14 _ (c .before .before .first-missing .ensures) (c .before .if4 .left))
+returns-5 c = c .refuse5 .ensures ∙ said 0 0 (at-miss _ _ 11 _ (c .before .before .before .before .before .before .before .before .before .before .first-step .ensures) (c .before .before .before .before .before .before .before .before .before .if1 .left) ∙ at-miss _ _ 21 _ (c .before .before .before .before .before .before .before .before .first-step2 .ensures) (c .before .before .before .before .before .before .before .if2 .left) ∙ at-miss _ _ 12 _ (c .before .before .before .before .before .before .first-step3 .ensures) (c .before .before .before .before .before .if3 .left) ∙ at-miss _ _ 13 _ (c .before .before .before .before .first-step4 .ensures) (c .before .before .before .if4 .left) ∙ at-hit _ _ 14 _ (c .before .before .first-missing .ensures) (c .before .if5 .taken))
+
+returns-6 : tie.Need-returns-6
+unfolding planChecks
+returns-6 c = c .done .ensures ∙ said 0 0 (at-miss _ _ 11 _ (c .before .before .before .before .before .before .before .before .before .before .first-step .ensures) (c .before .before .before .before .before .before .before .before .before .if1 .left) ∙ at-miss _ _ 21 _ (c .before .before .before .before .before .before .before .before .first-step2 .ensures) (c .before .before .before .before .before .before .before .if2 .left) ∙ at-miss _ _ 12 _ (c .before .before .before .before .before .before .first-step3 .ensures) (c .before .before .before .before .before .if3 .left) ∙ at-miss _ _ 13 _ (c .before .before .before .before .first-step4 .ensures) (c .before .before .before .if4 .left) ∙ at-miss _ _ 14 _ (c .before .before .first-missing .ensures) (c .before .if5 .left))
 
 pub steps-fault-spec : {M : Type 1} → statement M
 steps-fault-spec =
@@ -47,4 +51,8 @@ steps-fault-spec =
     (λ c κs. search needs)
     returns-4
     (λ c κs. search needs)
-    returns-5)
+    (λ c. search needs)
+    (λ c κs. search needs)
+    returns-5
+    (λ c κs. search needs)
+    returns-6)
