@@ -12,7 +12,7 @@ use Rattle.tables.specs.declared.Ask.{Ask}
 use Rattle.tables.specs.declared.Answer.{Answer}
 use Rattle.tables.specs.Tables.{problem, callChecks, Fills}
 
--- checks 3 to 9, where `room` starts are lent: one a job
+-- checks 3 to 9 and 20, where `room` starts are lent: one a job
 abbrev pub planningChecks : Loaded → Ask → (room : ℕ) → Verdict → Verdict
 planningChecks l q room next = callChecks (ltb room (q .jobs)) (q .bound) l q next
 
