@@ -21,15 +21,16 @@
 extern "C" {
 #endif
 
-/* The version that this header describes, 10,000 times the first number, 100 times the second, and the third: 1.1.0.
+/* The version that this header describes, 10,000 times the first number, 100 times the second, and the third: 1.2.0.
  * nuzzlefleece_version() returns that of the library linked; where the two differ, header and library are not of one build. */
-#define NUZZLEFLEECE_VERSION 10100
+#define NUZZLEFLEECE_VERSION 10200
 
 /* Sizes and limits. A fact is a number below the atom count; a word of facts has fact 0 in its lowest bit. */
 enum {
     NUZZLEFLEECE_OUT = 65535,           /* as a start: the job is not in the plan; as an estimate: never reachable */
     NUZZLEFLEECE_MOST_JOBS = 24,
     NUZZLEFLEECE_MOST_ATOMS = 64,
+    NUZZLEFLEECE_RULE_2 = 128,          /* added to the atom count: a quarter hour stands between jobs that bind */
     NUZZLEFLEECE_MOST_DURATION = 960,   /* quarter hours; the least is 1 */
     NUZZLEFLEECE_MOST_RELEASE = 2880,   /* quarter hours; the least is 0 */
     NUZZLEFLEECE_MOST_BOUND = 2880,     /* quarter hours */
@@ -54,7 +55,7 @@ enum {
     NUZZLEFLEECE_FILE_TOO_LONG = 1,      /* the file, or the file after appending, has over 65,536 bytes */
     NUZZLEFLEECE_FILE_DAMAGED = 2,       /* under 24 bytes, distance out of range, or one of a record's last four bytes is not zero */
     NUZZLEFLEECE_LENT_TOO_SHORT = 3,     /* lent memory is too short for the count given */
-    NUZZLEFLEECE_ATOMS_WRONG = 4,        /* the atom count is not 1 to 64 */
+    NUZZLEFLEECE_ATOMS_WRONG = 4,        /* the atom count, without the mark of rule 2, is not 1 to 64 */
     NUZZLEFLEECE_TOO_MANY_JOBS = 5,      /* more than 24 */
     NUZZLEFLEECE_DURATION_WRONG = 6,     /* not 1 to 960; place: lowest job */
     NUZZLEFLEECE_FACT_WRONG = 7,         /* at or above the atom count; place: lowest job, 24 for opening facts or goals */
@@ -62,8 +63,8 @@ enum {
     NUZZLEFLEECE_BOUND_WRONG = 9,        /* over 2,880 */
     NUZZLEFLEECE_NO_PLAN = 10,           /* there is no valid plan within the bound */
     NUZZLEFLEECE_ENDS_TOO_LATE = 11,     /* offered plan: a job ends after the bound; place: lowest job */
-    NUZZLEFLEECE_OVERLAP = 12,           /* offered plan: interfering jobs overlap; place: lower job of the first pair */
-    NUZZLEFLEECE_CONDITION_MISSING = 13, /* offered plan: at a start; place: lowest job */
+    NUZZLEFLEECE_OVERLAP = 12,           /* offered plan: interfering jobs overlap or, under rule 2, are less than a quarter hour apart; place: lower job of the first pair */
+    NUZZLEFLEECE_CONDITION_MISSING = 13, /* offered plan: at a start, or under rule 2 a quarter hour before it; place: lowest job */
     NUZZLEFLEECE_GOAL_MISSING = 14,      /* offered plan; place: lowest fact */
     NUZZLEFLEECE_PAIRS_WRONG = 15,       /* settling; place: 601 the set names no such job, 600 over 600 pairs, else the first pair with a job outside the set */
     NUZZLEFLEECE_NO_STARTS = 16,         /* settling: no starts keep the pairs and the releases within the bound */
@@ -116,7 +117,7 @@ typedef struct nuzzlefleece_action {
 /* The numbers of a call; set and pairs are looked at by settling alone, the bound by all but the estimates. */
 typedef struct nuzzlefleece_ask {
     size_t jobs;      /* how many of the lent records are jobs, numbered from 0 */
-    uint8_t atoms;    /* the atom count */
+    uint8_t atoms;    /* the atom count, 1 to 64, and under rule 2 NUZZLEFLEECE_RULE_2 more */
     uint64_t opening; /* the facts that hold at 0 */
     uint64_t goals;   /* the facts wanted at the bound */
     uint16_t bound;
@@ -166,7 +167,9 @@ uint32_t nuzzlefleece_version(void);
 
 /*
  * Checks an offered plan, one start a job, NUZZLEFLEECE_OUT for a job that is out.
- * Done exactly when the plan is valid; a valid plan starts no job before its release. Refusals 3 to 9 and 20, then 11 to 14 and 21.
+ * Done exactly when the plan is valid; a valid plan starts no job before its release. Under rule 2 it also keeps interfering jobs a
+ * quarter hour apart, and a finish shows its facts to starts a quarter hour later, to the goals at once.
+ * Refusals 3 to 9 and 20, then 11 to 14 and 21.
  */
 nuzzlefleece_answer nuzzlefleece_check_plan(const nuzzlefleece_action *records, size_t lent, nuzzlefleece_ask ask,
     const uint16_t *starts, size_t starts_lent);
@@ -189,7 +192,8 @@ nuzzlefleece_answer nuzzlefleece_least_bound(const nuzzlefleece_action *records,
 /*
  * Fills 64 bytes a job and 64 for End behind the last job, by fact: the job that supports this condition,
  * NUZZLEFLEECE_SUPPORTED_BY_START, or NUZZLEFLEECE_NO_CONDITION where it is no condition or the job is out. If several fit,
- * Start is named, else the lowest job. Refusals 3 to 9 and 20, then 11 to 14 and 21: only a valid plan has supports.
+ * Start is named, else the lowest job; under rule 2 a job that touches does not fit, save for End. Refusals 3 to 9 and 20, then
+ * 11 to 14 and 21: only a valid plan has supports.
  */
 nuzzlefleece_answer nuzzlefleece_supports(const nuzzlefleece_action *records, size_t lent, nuzzlefleece_ask ask,
     const uint16_t *starts, size_t starts_lent, uint8_t *supports, size_t supports_lent);
@@ -198,7 +202,7 @@ nuzzlefleece_answer nuzzlefleece_supports(const nuzzlefleece_action *records, si
  * Fills two bytes a pair, first job then second, in order of first then second, each pair once: jobs that interfere, or of
  * which the first is the named support of a condition of the second. The value is the count, at most 276; 552 bytes are
  * to be lent. If the plan's jobs start and finish at other moments and each first job still finishes before its second starts,
- * every job finds its conditions and the goals hold at the end; releases play no part in that.
+ * every job finds its conditions and the goals hold at the end; releases and the rule play no part in that.
  * Refusals 3 to 9 and 20, then 11 to 14 and 21.
  */
 nuzzlefleece_answer nuzzlefleece_binding_pairs(const nuzzlefleece_action *records, size_t lent, nuzzlefleece_ask ask,
@@ -206,29 +210,32 @@ nuzzlefleece_answer nuzzlefleece_binding_pairs(const nuzzlefleece_action *record
 
 /*
  * Fills one earliest estimate a job, the greater of its release and what its conditions cost, NUZZLEFLEECE_OUT where it is never
- * reachable. No valid plan starts a job before its estimate. Refusals 3 to 8 and 20.
+ * reachable. Under rule 2 a condition that is not open costs a quarter hour more. No valid plan starts a job before its estimate.
+ * Refusals 3 to 8 and 20.
  */
 nuzzlefleece_answer nuzzlefleece_earliest(const nuzzlefleece_action *records, size_t lent, nuzzlefleece_ask ask,
     uint16_t *estimates, size_t estimates_lent);
 
 /*
  * Settles the jobs of ask.set: fills the least starts with which the first job of each of the ask.pairs pairs finishes no later
- * than the second starts, no job starts before its release and all end by the bound; jobs outside the set get NUZZLEFLEECE_OUT. Two
- * bytes a pair, at most 600 pairs. Conditions are not looked at. Refusals 3 to 9 and 20, then 15 and 16.
+ * than the second starts, under rule 2 no later than a quarter hour before that, no job starts before its release and all end by the
+ * bound; jobs outside the set get NUZZLEFLEECE_OUT. Two bytes a pair, at most 600 pairs. Conditions are not looked at. Refusals 3 to 9
+ * and 20, then 15 and 16.
  */
 nuzzlefleece_answer nuzzlefleece_settle(const nuzzlefleece_action *records, size_t lent, nuzzlefleece_ask ask,
     const uint8_t *pairs, size_t pairs_lent, uint16_t *starts, size_t starts_lent);
 
 /*
- * Reads the last save of a job file: fills one record a job and gives the file's numbers. A file written before there were releases
- * has zeros in their place. Refusals 1 to 9 and 20.
+ * Reads the last save of a job file: fills one record a job and gives the file's numbers, the atom count as it stands there, with the
+ * mark of rule 2 where it has one. A file written before there were releases has zeros in their place. A library before 1.2.0 refuses
+ * a file with the mark with 4. Refusals 1 to 9 and 20.
  * 255 records lent take the count of any file, so that 3 cannot come; a count over 24 is then 5.
  */
 nuzzlefleece_read_answer nuzzlefleece_read_file(const uint8_t *file, size_t file_length, nuzzlefleece_action *records, size_t lent);
 
 /*
  * Appends a save of 32 bytes a job and 24 more behind the bytes of the buffer that are in use; the value is the new length in use.
- * Reading what was written gives back what was saved, the releases too. Refusals 1, 3 to 9 and 20.
+ * Reading what was written gives back what was saved, the releases and the mark of rule 2 too. Refusals 1, 3 to 9 and 20.
  */
 nuzzlefleece_answer nuzzlefleece_write_file(const nuzzlefleece_action *records, size_t lent, nuzzlefleece_save save,
     uint8_t *buffer, size_t buffer_length);

@@ -14,12 +14,13 @@ The text, a line a thing; what stands behind # is a comment, and blank lines mea
                                     without deletions the lone - may be left out. Jobs are numbered in order from 0
     job warm 8 release 6: unpacked -> warm
                                     the same with a release, in quarter hours; where none is given it is 0
+    rule 2                          a quarter hour stands between jobs that bind; rule 1, which may be left out, has none
     atoms 5                         the atom count, where it is not the number of facts named
 
 A name begins with a letter and goes on with letters, digits, '-', '_' and '.'. Facts are named before they are used.
 The text may hold anything that a file can hold: where the planner will refuse it, a warning on standard error says
 so, and the file is made all the same. `show` names facts f0, f1 .. and jobs j0, j1 .. and shows the last save of a
-file; a release is shown where it is not 0.
+file; a release is shown where it is not 0, the rule where it is 2.
 Status 1 with a line on standard error where the text or the file is wrong, 2 where it cannot be read or the result written.
 """
 import os
@@ -31,6 +32,8 @@ import sys
 NAME = re.compile(r'[A-Za-z][A-Za-z0-9_.-]*')
 RECORD, TRAILER, FIELDS = 32, 24, '<QQQHH'
 MOST_FACTS, MOST_JOBS, MOST_SHORT, LONGEST_FILE, LONGEST_TEXT = 64, 255, 65535, 65536, 1 << 24
+# Added to the atom count of a file under rule 2.
+RULE_2 = 128
 REFUSALS = os.path.join(os.path.dirname(os.path.realpath(__file__)), 'refusals')
 
 
@@ -65,14 +68,14 @@ class Text:
 
     def __init__(self):
         self.facts, self.names, self.jobs = {}, set(), []
-        self.opening, self.goals, self.bound, self.atoms = 0, 0, None, None
+        self.opening, self.goals, self.bound, self.rule, self.atoms = 0, 0, None, None, None
 
     def line(self, line):
         first, *words = line.split()
         reader = {'facts': self.read_facts, 'open': self.read_open, 'goals': self.read_goals, 'bound': self.read_bound,
-                  'atoms': self.read_atoms, 'job': self.read_job}.get(first)
+                  'rule': self.read_rule, 'atoms': self.read_atoms, 'job': self.read_job}.get(first)
         if reader is None:
-            raise Wrong(f'a line begins with facts, open, goals, bound, atoms or job, not {short(first)!r}')
+            raise Wrong(f'a line begins with facts, open, goals, bound, rule, atoms or job, not {short(first)!r}')
         reader(words)
 
     def read_facts(self, words):
@@ -106,10 +109,19 @@ class Text:
             raise Wrong('the bound is given twice')
         self.bound = number_in(only_word(words, 'bound'), MOST_SHORT, 'the bound')
 
+    def read_rule(self, words):
+        if self.rule is not None:
+            raise Wrong('the rule is given twice')
+        word = only_word(words, 'rule')
+        digits = word.lstrip('0')
+        if digits not in ('1', '2'):
+            raise Wrong(f'the rule is 1 or 2, not {short(word)!r}')
+        self.rule = int(digits)
+
     def read_atoms(self, words):
         if self.atoms is not None:
             raise Wrong('the atom count is given twice')
-        self.atoms = number_in(only_word(words, 'atoms'), 255, 'the atom count')
+        self.atoms = number_in(only_word(words, 'atoms'), RULE_2 - 1, 'the atom count')
 
     def read_job(self, words):
         before, colon, lists = ' '.join(words).partition(':')
@@ -127,14 +139,14 @@ class Text:
         """The bytes of the file: records, then trailer."""
         if self.bound is None:
             raise Wrong('there is no bound')
-        atoms = len(self.facts) if self.atoms is None else self.atoms
+        atoms = (len(self.facts) if self.atoms is None else self.atoms) + (RULE_2 if self.rule == 2 else 0)
         records = b''.join(struct.pack(FIELDS + '4x', *job) for job in self.jobs)
         return records + struct.pack('<QQHBBI', self.opening, self.goals, self.bound, len(self.jobs), atoms, len(records))
 
 
 def refusal_of(file):
     """The number and the place with which the planner refuses a file that was made, None where it plans; 10 is the planner's own."""
-    jobs, (opening, goals, bound, atoms), _ = take_apart(file)
+    jobs, (opening, goals, bound, _, atoms), _ = take_apart(file)
     over = [number for number, job in enumerate(jobs) if (job[0] | job[1] | job[2]) >> atoms]
     over += [24] if (opening | goals) >> atoms else []
     checks = [(4, [0] if not 1 <= atoms <= MOST_FACTS else []), (5, [0] if len(jobs) > 24 else []),
@@ -207,7 +219,8 @@ def take_apart(file):
         if any(record[28:]):
             raise Wrong(f'the four bytes behind the release of job {number} are not zero')
     jobs = [struct.unpack(FIELDS, record[:28]) for record in records]
-    return jobs, (opening, goals, bound, atoms), (first, distance - RECORD * count)
+    rule, atoms = (2, atoms - RULE_2) if atoms >= RULE_2 else (1, atoms)
+    return jobs, (opening, goals, bound, rule, atoms), (first, distance - RECORD * count)
 
 
 def fact_names(word):
@@ -223,7 +236,7 @@ def job_line(number, job):
 
 def text_of(file):
     """The text of the last save."""
-    jobs, (opening, goals, bound, atoms), (before, behind) = take_apart(file)
+    jobs, (opening, goals, bound, rule, atoms), (before, behind) = take_apart(file)
     used = opening | goals
     for conditions, additions, deletions, *_ in jobs:
         used |= conditions | additions | deletions
@@ -233,6 +246,7 @@ def text_of(file):
     if named:
         lines.append('facts' + ''.join(f' f{fact}' for fact in range(named)))
     lines += [f'atoms {atoms}'] if atoms != named else []
+    lines += [f'rule {rule}'] if rule != 1 else []
     lines += ['open' + fact_names(opening), 'goals' + fact_names(goals), f'bound {bound}']
     lines += [job_line(number, job) for number, job in enumerate(jobs)]
     return ''.join(line + '\n' for line in lines)

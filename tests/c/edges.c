@@ -1,6 +1,6 @@
 /*
- * Calls every function of the C library on the scope's example P3, with warm released later, with nothing lent and with bad input, and
- * holds each answer to the scope's numbers. Last line: 'N passed, M failed'; any failure gives status 1.
+ * Calls every function of the C library on the scope's example P3, with warm released later, under rule 2, with nothing lent and with
+ * bad input, and holds each answer to the scope's numbers. Last line: 'N passed, M failed'; any failure gives status 1.
  */
 #include <stdio.h>
 #include <string.h>
@@ -27,9 +27,12 @@ static const nuzzlefleece_action late[] = {
 static const nuzzlefleece_ask p3_ask = {4, 5, FACT(0), FACT(2) | FACT(3) | FACT(4), 12, 0, 0};
 static const uint16_t p3_starts[] = {0, 7, 4, 4};
 static const uint16_t late_starts[] = {0, 7, 6, 4};
+static const uint16_t ruled_starts[] = {0, 9, 5, 5};
 static const uint8_t p3_pairs[] = {0, 1, 0, 2, 0, 3, 3, 1};
 static const char p3_page[] =
     "least 12\n0 4 0\n4 12 2\n4 7 3\n7 9 1\n0 before 1\n0 before 2\n0 before 3\n3 before 1\n";
+static const char ruled_page[] =
+    "least 13\n0 4 0\n5 13 2\n5 8 3\n9 11 1\n0 before 1\n0 before 2\n0 before 3\n3 before 1\n";
 
 static void expect(const char *what, int holds) {
     if (holds) {
@@ -159,6 +162,72 @@ static void keeps_releases_in_files(void) {
     says("write release 2881", nuzzlefleece_write_file(back, 4, save, file, sizeof file), NUZZLEFLEECE_RELEASE_WRONG, 2, 0);
 }
 
+/* P3's numbers within a bound, under rule 2. */
+static nuzzlefleece_ask ruled_ask(uint16_t bound) {
+    nuzzlefleece_ask ask = p3_ask;
+    ask.atoms += NUZZLEFLEECE_RULE_2;
+    ask.bound = bound;
+    return ask;
+}
+
+/* P3 under rule 2: least bound, plan, estimates and settled starts. */
+static void answers_rule_2(void) {
+    uint16_t out[4] = {0};
+    nuzzlefleece_ask ask = ruled_ask(13);
+    says("least bound under rule 2", nuzzlefleece_least_bound(p3, 4, ruled_ask(2880), out, 4), 0, 0, 13);
+    expect("its starts", memcmp(out, ruled_starts, 8) == 0);
+    says("none within 12", nuzzlefleece_plan_within(p3, 4, ruled_ask(12), out, 4), NUZZLEFLEECE_NO_PLAN, 0, 0);
+    says("estimates under rule 2", nuzzlefleece_earliest(p3, 4, ask, out, 4), 0, 0, 0);
+    expect("all but unpack from 5", out[0] == 0 && out[1] == 5 && out[2] == 5 && out[3] == 5);
+    ask.set = 15;
+    ask.pairs = 4;
+    says("settling with gaps", nuzzlefleece_settle(p3, 4, ask, p3_pairs, 8, out, 4), 0, 0, 0);
+    expect("settled with gaps", memcmp(out, ruled_starts, 8) == 0);
+    ask.bound = 12;
+    says("no room for gaps", nuzzlefleece_settle(p3, 4, ask, p3_pairs, 8, out, 4), NUZZLEFLEECE_NO_STARTS, 0, 0);
+    ask.opening = 0;
+    says("estimates from nothing", nuzzlefleece_earliest(p3, 4, ask, out, 4), 0, 0, 0);
+    expect("never reachable with a gap", out[0] == NUZZLEFLEECE_OUT && out[3] == NUZZLEFLEECE_OUT);
+}
+
+/* Plans under rule 2: jobs that touch are refused, and so is a start that sees a finish too soon; End may stand at a finish. */
+static void refuses_touching(void) {
+    static uint8_t out[NUZZLEFLEECE_PAIRS_BYTES];
+    static const uint16_t touching[] = {0, 8, 5, 5}, early[] = {0, 9, 4, 5};
+    nuzzlefleece_ask ask = ruled_ask(13);
+    says("a quarter hour apart", nuzzlefleece_check_plan(p3, 4, ask, ruled_starts, 4), 0, 0, 0);
+    says("drench touches wash", nuzzlefleece_check_plan(p3, 4, ask, touching, 4), NUZZLEFLEECE_OVERLAP, 1, 0);
+    says("the plan of rule 1", nuzzlefleece_check_plan(p3, 4, ask, p3_starts, 4), NUZZLEFLEECE_OVERLAP, 1, 0);
+    says("warm touches unpack", nuzzlefleece_check_plan(p3, 4, ask, early, 4), NUZZLEFLEECE_CONDITION_MISSING, 2, 0);
+    says("no supports of it", nuzzlefleece_supports(p3, 4, ask, early, 4, out, 320), NUZZLEFLEECE_CONDITION_MISSING, 2, 0);
+    says("supports under rule 2", nuzzlefleece_supports(p3, 4, ask, ruled_starts, 4, out, 320), 0, 0, 0);
+    expect("unpack supports warm, warm End at the bound", out[128 + 1] == 0 && out[256 + 3] == 2);
+    says("binding pairs under rule 2", nuzzlefleece_binding_pairs(p3, 4, ask, ruled_starts, 4, out, sizeof out), 0, 0, 4);
+    expect("the pairs of rule 1", memcmp(out, p3_pairs, 8) == 0);
+}
+
+/* The mark is kept in a file, and the atom count is looked at without it. */
+static void keeps_the_rule_in_files(void) {
+    static const uint8_t wrong[] = {0, 65, 127, 128, 193, 255};
+    static uint8_t file[152], text[NUZZLEFLEECE_PAGE_BYTES];
+    uint16_t out[4] = {0};
+    nuzzlefleece_action back[4] = {{.duration = 0}};
+    nuzzlefleece_save save = {ruled_ask(2880), 0};
+    says("write rule 2", nuzzlefleece_write_file(p3, 4, save, file, sizeof file), 0, 0, sizeof file);
+    expect("the mark in the file", file[147] == 133 && nuzzlefleece_read_file(file, sizeof file, back, 4).ask.atoms == 133);
+    says("page under rule 2", nuzzlefleece_page(file, sizeof file, text, sizeof text), 0, 0, sizeof ruled_page - 1);
+    expect("the page under rule 2", memcmp(text, ruled_page, sizeof ruled_page - 1) == 0);
+    for (size_t i = 0; i < sizeof wrong; i++) {
+        file[147] = save.ask.atoms = wrong[i];
+        says("atoms wrong in a file", nuzzlefleece_read_file(file, sizeof file, back, 4).answer, NUZZLEFLEECE_ATOMS_WRONG, 0, 0);
+        says("atoms wrong in a call", nuzzlefleece_least_bound(p3, 4, save.ask, out, 4), NUZZLEFLEECE_ATOMS_WRONG, 0, 65535);
+    }
+    file[147] = 128 + 4;
+    says("a fact at the atom count", nuzzlefleece_read_file(file, sizeof file, back, 4).answer, NUZZLEFLEECE_FACT_WRONG, 3, 0);
+    file[147] = 128 + 64;
+    says("64 atoms under rule 2", nuzzlefleece_read_file(file, sizeof file, back, 4).answer, 0, 0, 0);
+}
+
 /* A save is read back, and its page is bench-plan's text. */
 static void answers_files(void) {
     static uint8_t file[200], text[NUZZLEFLEECE_PAGE_BYTES];
@@ -274,6 +343,9 @@ int main(void) {
     answers_releases();
     refuses_early_starts();
     keeps_releases_in_files();
+    answers_rule_2();
+    refuses_touching();
+    keeps_the_rule_in_files();
     answers_files();
     answers_readings();
     takes_null();

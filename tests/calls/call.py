@@ -8,6 +8,8 @@ KINDS = {
 }
 WORDS = 16
 RECORD = struct.Struct('<QQQHH4s')
+# A file ends with a trailer of so many bytes, the atom count at this one of them; rule 2 adds so much to it.
+TRAILER, ATOMS_AT, RULE_2 = 24, 19, 128
 
 # What the product's program can take in; a stream that asks for more would test its buffers and not the planner.
 MOST_RECORDS, MOST_OUT, MOST_TABLE, MOST_FILE, MOST_MARKS = 255, 2048, 65600, 65700, 64
@@ -47,6 +49,31 @@ class Call:
             raise ValueError(f'a call that does not fit: {head}')
 
 
+def marked(atoms, gap):
+    """The atom count as a call or a file has it: with the mark of the rule, whose gap is 0 or 1."""
+    return atoms + RULE_2 * gap
+
+
+def with_trailer(file, at, data):
+    """The bytes of the trailer from a place on replaced."""
+    at += len(file) - TRAILER
+    return file[:at] + data + file[at + len(data):]
+
+
+def atom_byte(call):
+    """The atom count of a call, or of the file that it reads, with its mark; None where there is none."""
+    if call.head[0] == 8:
+        return call.table[ATOMS_AT - TRAILER] if len(call.table) >= TRAILER else None
+    return None if call.head[0] == 10 else call.head[2]
+
+
+def with_atom_byte(call, byte):
+    """The same call with another atom count."""
+    if call.head[0] == 8:
+        return Call(call.head, call.records, with_trailer(call.table, ATOMS_AT, bytes([byte])))
+    return Call([*call.head[:2], byte, *call.head[3:]], call.records, call.table)
+
+
 def table_bytes(head):
     """The bytes of the given tables: one table, or the three mark tables in a row."""
     return head[9] + 2 * head[10] + head[11] if head[0] == 10 else head[9]
@@ -79,10 +106,14 @@ def float_text(bits):
     return f'{value!r} (bits {bits:016x})'
 
 
+def atoms_text(byte):
+    return str(byte) if byte < RULE_2 else f'{byte - RULE_2} under rule 2'
+
+
 def table_text(call):
     """The jobs that count, at most the 24 that a table may have and two more, and the numbers beside."""
     head = call.head
-    lines = [f'jobs {head[1]} ({head[8]} records lent), atoms {head[2]}, opening {facts_text(head[3])}, '
+    lines = [f'jobs {head[1]} ({head[8]} records lent), atoms {atoms_text(head[2])}, opening {facts_text(head[3])}, '
              f'goals {facts_text(head[4])}, bound {head[5]}']
     for number, job in enumerate(call.records[:min(head[1], 26)]):
         lines.append(f'job {number}: {job_text(job)}')

@@ -3,12 +3,12 @@ import struct
 from collections import namedtuple
 from dataclasses import replace
 
-from call import Call, Job
-from tables import (LAST_BOUND, LAST_RELEASE, LONGEST, MOST_JOBS, OUT, drawn_table, landing, on_time, planned,
-                    random_table)
+from call import TRAILER, Call, Job, marked
+from tables import (LAST_BOUND, LAST_RELEASE, LONGEST, MOST_JOBS, NAMED, OUT, chain, drawn_table, house, landing,
+                    last_end, on_time, planned, random_table, some_landing, tower, trolley, word)
 
 PAIR_TABLE = 552
-RECORD, TRAILER = 32, 24
+RECORD = 32
 OFFERED, TABLED = (1, 4, 5), (1, 2, 3, 4, 5, 6, 7, 8, 9)
 MOST = 2 ** 64 - 1
 
@@ -31,6 +31,7 @@ class Draft:
     def __init__(self, kind, problem, starts=()):
         self.kind, self.jobs, self.count = kind, list(problem.jobs), len(problem.jobs)
         self.atoms, self.opening, self.goals, self.bound = problem.atoms, problem.opening, problem.goals, problem.bound
+        self.gap = problem.gap
         self.starts = list(starts)
         self.set, self.pairs, self.pair_count = (1 << self.count) - 1, [], 0
         self.before, self.notes, self.behind = b'', b'', b''
@@ -40,7 +41,7 @@ class Draft:
 
     def file(self):
         distance = RECORD * self.count + len(self.notes)
-        numbers = (self.count, self.atoms, self.opening, self.goals, self.bound, distance)
+        numbers = (self.count, marked(self.atoms, self.gap), self.opening, self.goals, self.bound, distance)
         return self.before + save_bytes(self.jobs, *numbers, self.notes)
 
     def given(self):
@@ -56,7 +57,7 @@ class Draft:
             return Call([8] + [0] * 7 + [len(self.lent), len(given)], self.lent, given)
         six = {7: self.set, 9: self.used}.get(self.kind, 0)
         seven = self.pair_count if self.kind == 7 else 0
-        head = [self.kind, self.count, self.atoms, self.opening, self.goals, self.bound, six, seven,
+        head = [self.kind, self.count, marked(self.atoms, self.gap), self.opening, self.goals, self.bound, six, seven,
                 len(self.jobs), len(given), self.room, self.fill]
         return Call(head, self.jobs, given)
 
@@ -85,7 +86,13 @@ def short_given(draft, dice, place):
 
 
 def bad_atoms(draft, dice, place):
-    draft.atoms = dice.choice((0, 65, 66, 128, 255))
+    """A byte that no rule takes, as it stands in the call."""
+    draft.atoms, draft.gap = dice.choice((0, 65, 66, 128, 255)), 0
+
+
+def bad_marked_atoms(draft, dice, place):
+    """The same with the mark of rule 2."""
+    draft.atoms, draft.gap = dice.choice((0, 65, 66, 127)), 1
 
 
 def many_jobs(draft, dice, place):
@@ -153,16 +160,17 @@ FAULTS = [short_records, short_room, short_given, bad_atoms, many_jobs, huge_cou
           stray_beside, both_ways, late_bound]
 
 
-# Crates: whether jobs get releases, and the faults that may be put in. The calls that stood before there were releases
-# are drawn with ON_TIME, by the same throws as ever.
+# Crates: whether jobs get releases, the faults that may be put in, and the gap of the rule. The calls that stood before
+# there were releases are drawn with ON_TIME, by the same throws as ever, those that stood before rule 2 with LATE.
 
-Crates = namedtuple('Crates', 'land faults')
-ON_TIME = Crates(on_time, FAULTS)
-LATE = Crates(landing, FAULTS + [bad_release, bad_release])
+Crates = namedtuple('Crates', 'land faults gap')
+ON_TIME = Crates(on_time, FAULTS, 0)
+LATE = Crates(landing, FAULTS + [bad_release, bad_release], 0)
+HYGIENE = Crates(some_landing, FAULTS + [bad_release, bad_marked_atoms], 1)
 
 
 def landed(dice, crates, problem):
-    return replace(problem, jobs=crates.land(dice, problem.jobs))
+    return replace(problem, jobs=crates.land(dice, problem.jobs), gap=crates.gap)
 
 
 def base_draft(dice, kind, jobs=None, crates=ON_TIME):
@@ -179,3 +187,44 @@ def cut_to_limits(draft):
     draft.room = min(draft.room, 2048)
     draft.jobs = draft.jobs[:255]
     return draft
+
+
+# Calls of more than one walk.
+
+def each_fault(dice, crates, places):
+    """Each fault by itself, in each kind of call, at each of the places of 24 jobs."""
+    for kind in TABLED:
+        for fault in crates.faults:
+            for place in places:
+                draft = base_draft(dice, kind, 24, crates)
+                fault(draft, dice, place)
+                yield cut_to_limits(draft).call()
+
+
+def at_bounds(problem, bounds):
+    """The least bound, and planning within each of the bounds."""
+    yield Draft(3, replace(problem, bound=LAST_BOUND)).call()
+    yield from (Draft(2, replace(problem, bound=bound)).call() for bound in bounds)
+
+
+def each_named(dice, crates):
+    """Houses, trolleys, towers and chains, at all the time there is and at the end of some plan."""
+    houses = [house(groups) for groups in ((1, 1), (2, 1), (5, 7), (7, 7), (4, 3, 1))]
+    for problem in NAMED + houses + [trolley(3), tower(3), chain([5] * 12, True), chain([3] * 12, False)]:
+        for _ in range(3):
+            late = landed(dice, crates, replace(problem, bound=LAST_BOUND))
+            yield Draft(3, late).call()
+            yield Draft(6, late).call()
+            within, starts = planned(dice, late)
+            for less in (0, 1):
+                yield Draft(2, replace(within, bound=max(0, last_end(within, starts) - less))).call()
+
+
+def settled(problem, asked, bounds):
+    """Settling of the jobs asked, one behind the other, within each of the bounds."""
+    for bound in sorted(bounds):
+        draft = Draft(7, replace(problem, bound=bound))
+        draft.set = word(*asked)
+        draft.pairs = list(zip(asked, asked[1:]))
+        draft.pair_count = len(draft.pairs)
+        yield draft.call()

@@ -1,8 +1,8 @@
 """Calls of the reader with files in order and damaged, and of the writer at its limits."""
 import struct
 
-from call import Call, Job
-from draft import MOST, RECORD, TRAILER, Draft, landed, save_bytes
+from call import TRAILER, Call, Job, marked, with_trailer
+from draft import MOST, RECORD, Draft, landed, save_bytes
 from tables import chain, jobs_u, large_table, small_table
 
 LONGEST_FILE = 65536
@@ -20,8 +20,8 @@ def some_records(dice, count):
 
 def save_of(problem, notes=b''):
     count = len(problem.jobs)
-    return save_bytes(problem.jobs, count, problem.atoms, problem.opening, problem.goals, problem.bound,
-                      RECORD * count + len(notes), notes)
+    return save_bytes(problem.jobs, count, marked(problem.atoms, problem.gap), problem.opening, problem.goals,
+                      problem.bound, RECORD * count + len(notes), notes)
 
 
 def some_problem(dice, crates):
@@ -42,12 +42,6 @@ def some_file(dice, crates):
 def flipped(dice, file):
     at = dice.randrange(len(file))
     return file[:at] + bytes([file[at] ^ 1 << dice.randrange(8)]) + file[at + 1:]
-
-
-def with_trailer(file, at, data):
-    """The bytes of the trailer from a place on replaced."""
-    at += len(file) - TRAILER
-    return file[:at] + data + file[at + len(data):]
 
 
 def flipped_trailer(dice, file):

@@ -10,15 +10,18 @@ from dataclasses import replace
 
 sys.dont_write_bytecode = True
 import files
+import gaps
 import readings
 import releases
 from call import Call, Job
-from draft import FAULTS, LATE, MOST, OFFERED, ON_TIME, TABLED, Draft, base_draft, cut_to_limits, landed
+from draft import (FAULTS, HYGIENE, LATE, MOST, OFFERED, ON_TIME, TABLED, Draft, base_draft, cut_to_limits, each_fault,
+                   landed)
 from tables import (LAST_BOUND, LONGEST, NAMED, OUT, Problem, chain, clashing, drawn_table, house, interfere,
                     large_table, last_end, planned, some_facts, tower)
 
 SEED, DRAWN = 20040725, 7000
 LATE_SEED, LATE_DRAWN = 20050725, 800
+GAP_SEED, GAP_DRAWN = 20060725, 600
 
 
 def planned_table(dice, crates):
@@ -128,7 +131,8 @@ def settled_end(draft):
     """Where the last job ends at the least starts, or more than any bound if the pairs go in a circle."""
     starts = {j: draft.jobs[j].release for j in range(draft.count) if draft.set >> j & 1}
     for _ in range(len(starts) + 1):
-        moves = [(b, starts[a] + draft.jobs[a][3]) for a, b in draft.pairs if starts[b] < starts[a] + draft.jobs[a][3]]
+        over = {a: start + draft.jobs[a][3] + draft.gap for a, start in starts.items()}
+        moves = [(b, over[a]) for a, b in draft.pairs if starts[b] < over[a]]
         for b, start in moves:
             starts[b] = max(starts[b], start)
         if not moves:
@@ -194,13 +198,8 @@ def faulty(dice, crates):
 
 
 def every_fault(dice):
-    """Each fault by itself, in each kind of call, at the first, a middle and the last job of 24."""
-    for kind in TABLED:
-        for fault in FAULTS:
-            for place in (0, 11, 23):
-                draft = base_draft(dice, kind, 24)
-                fault(draft, dice, place)
-                yield cut_to_limits(draft).call()
+    """At the first, a middle and the last job."""
+    return each_fault(dice, ON_TIME, (0, 11, 23))
 
 
 def every_place(dice):
@@ -303,15 +302,17 @@ def mixed(seed, walks, count, crates):
 
 
 def corpus():
-    """The fixed calls: those that stood before there were releases, unchanged, and behind them those with releases."""
-    return mixed(SEED, WALKS, DRAWN, ON_TIME) + mixed(LATE_SEED, releases.WALKS, LATE_DRAWN, LATE)
+    """The fixed calls: those that stood before there were releases, unchanged, behind them those with releases, and
+    last those under rule 2."""
+    return (mixed(SEED, WALKS, DRAWN, ON_TIME) + mixed(LATE_SEED, releases.WALKS, LATE_DRAWN, LATE)
+            + mixed(GAP_SEED, gaps.WALKS, GAP_DRAWN, HYGIENE))
 
 
 def more(count, seed):
-    """Half of the calls on tables with releases."""
+    """Half of the calls under rule 2, half of all on tables with releases."""
     dice = random.Random(seed)
     for _ in range(count):
-        yield from drawn(dice, 1, dice.choice((ON_TIME, LATE)))
+        yield from drawn(dice, 1, dice.choice((ON_TIME, LATE, HYGIENE, HYGIENE)))
 
 
 def main(words):

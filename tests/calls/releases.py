@@ -2,11 +2,12 @@
 from dataclasses import replace
 from itertools import product
 
-from call import Job
-from draft import FAULTS, LATE, MOST, OFFERED, RECORD, TABLED, Draft, bad_release, base_draft, cut_to_limits, landed
-from files import read_call, save_of, some_records, with_trailer
-from tables import (LAST_BOUND, LAST_RELEASE, LONGEST, NAMED, OUT, Problem, chain, clashing, drawn_table, go_twice,
-                    house, jobs_u, large_table, last_end, planned, released, tower, trolley, word)
+from call import Job, with_trailer
+from draft import (FAULTS, LATE, MOST, OFFERED, RECORD, TABLED, Draft, at_bounds, bad_release, base_draft,
+                   cut_to_limits, each_named, landed, settled)
+from files import read_call, save_of, some_records
+from tables import (LAST_BOUND, LAST_RELEASE, LONGEST, OUT, Problem, chain, clashing, drawn_table, go_again, jobs_u,
+                    large_table, planned, released, word)
 
 EDGES = (0, 1, 255, 256, LAST_RELEASE - 1, LAST_RELEASE, LAST_RELEASE + 1, 32768, 65535)
 
@@ -102,9 +103,8 @@ def same_jobs(dice):
     for releases in ([5, 0], [0, 5], [5, 5], [0, 3, 9], [9, 3, 0], [4, 4, 2], [2, 4, 4], [7, 1, 7, 1]):
         copies = Problem((Job(0, 1, 0, 3),) * len(releases), 1, 0, 1, LAST_BOUND)
         yield from at_bounds(released(copies, releases), (min(releases) + 3, max(releases) + 2, LAST_BOUND))
-    again = replace(go_twice(), jobs=go_twice().jobs + go_twice().jobs[:1])
     for first, second in product((0, 2, 3, 7), repeat=2):
-        yield from at_bounds(released(again, [first, 0, 0, 0, second]), (5, 12))
+        yield from at_bounds(released(go_again(), [first, 0, 0, 0, second]), (5, 12))
 
 
 def one_by_one(dice):
@@ -117,23 +117,9 @@ def one_by_one(dice):
             yield from at_bounds(released(problem, releases), (total, max(releases) + total, LAST_BOUND))
 
 
-def at_bounds(problem, bounds):
-    """The least bound, and planning within each of the bounds."""
-    yield Draft(3, replace(problem, bound=LAST_BOUND)).call()
-    yield from (Draft(2, replace(problem, bound=bound)).call() for bound in bounds)
-
-
 def named(dice):
-    """Houses, trolleys, towers and chains with drawn releases, at all the time there is and at the end of some plan."""
-    houses = [house(groups) for groups in ((1, 1), (2, 1), (5, 7), (7, 7), (4, 3, 1))]
-    for problem in NAMED + houses + [trolley(3), tower(3), chain([5] * 12, True), chain([3] * 12, False)]:
-        for _ in range(3):
-            late = landed(dice, LATE, replace(problem, bound=LAST_BOUND))
-            yield Draft(3, late).call()
-            yield Draft(6, late).call()
-            within, starts = planned(dice, late)
-            for less in (0, 1):
-                yield Draft(2, replace(within, bound=max(0, last_end(within, starts) - less))).call()
+    """With drawn releases."""
+    return each_named(dice, LATE)
 
 
 def one_job(dice):
@@ -180,15 +166,6 @@ def settled_chains(dice):
     circle = Draft(7, problem)
     circle.pairs, circle.pair_count = [(0, 1), (1, 0)], 2
     yield circle.call()
-
-
-def settled(problem, asked, bounds):
-    for bound in sorted(bounds):
-        draft = Draft(7, replace(problem, bound=bound))
-        draft.set = word(*asked)
-        draft.pairs = list(zip(asked, asked[1:]))
-        draft.pair_count = len(draft.pairs)
-        yield draft.call()
 
 
 def all_clash(dice):

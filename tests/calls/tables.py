@@ -9,12 +9,13 @@ MOST_JOBS, LAST_BOUND, LONGEST, LAST_RELEASE = 24, 2880, 960, 2880
 
 @dataclass(frozen=True)
 class Problem:
-    """Jobs, and the numbers of a call beside them; facts are bits."""
+    """Jobs, and the numbers of a call beside them; facts are bits, and the gap is 1 under rule 2."""
     jobs: tuple
     atoms: int
     opening: int
     goals: int
     bound: int
+    gap: int = 0
 
 
 def word(*facts):
@@ -36,6 +37,11 @@ def jobs_u(goals, bound):
 def go_twice():
     jobs = (job([0], [1], [0], 1), job([1], [0], [1], 1), job([1], [2], [], 1), job([0, 2], [3], [], 1))
     return Problem(jobs, 4, word(0), word(1, 3), 12)
+
+
+def go_again():
+    """With a second go."""
+    return replace(go_twice(), jobs=go_twice().jobs + go_twice().jobs[:1])
 
 
 # Stage durations of the house groups; b where the wash bay is held.
@@ -172,7 +178,12 @@ def drawn_table(dice):
     return dice.choice(makers)(dice)
 
 
-# Releases.
+# The gap and releases.
+
+def ruled(problem):
+    """The same table under rule 2."""
+    return replace(problem, gap=1)
+
 
 def released(problem, releases):
     """The same table with these releases, from job 0 on."""
@@ -192,6 +203,11 @@ def landing(dice, jobs):
     return tuple(job._replace(release=dice.choice(times)) for job in jobs)
 
 
+def some_landing(dice, jobs):
+    """Half of the tables have releases."""
+    return dice.choice((on_time, landing))(dice, jobs)
+
+
 # Plans that are valid by the way they are made.
 
 def interfere(a, b):
@@ -209,14 +225,14 @@ def facts_at(problem, starts, time):
 
 
 def earliest_place(problem, starts, number):
-    """The earliest start at which the conditions hold, from the release on and behind all jobs placed so far that
-    interfere; or None."""
+    """The earliest start that sees the conditions, from the release on and behind all jobs placed so far that
+    interfere; or None. What a finish shows is seen the gap later."""
     placed = [j for j, start in enumerate(starts) if start != OUT]
-    ends = {j: starts[j] + problem.jobs[j][3] for j in placed}
+    ends = {j: starts[j] + problem.jobs[j][3] + problem.gap for j in placed}
     behind = [ends[j] for j in placed if interfere(problem.jobs[j], problem.jobs[number])]
     free = max([problem.jobs[number].release, *behind])
     for time in sorted({free, *(end for end in ends.values() if end > free)}):
-        if not problem.jobs[number][0] & ~facts_at(problem, starts, time):
+        if not problem.jobs[number][0] & ~facts_at(problem, starts, time - problem.gap):
             return time
     return None
 

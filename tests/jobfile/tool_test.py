@@ -37,6 +37,11 @@ LATE = U.replace('job warm 8:', 'job warm 8 release 6:')
 LATE_FILE = U_FILE[:90] + b'\6' + U_FILE[91:]
 LATE_SHOWN = SHOWN.replace('job j2 8:', 'job j2 8 release 6:')
 ON_TIME = U.replace('job warm 8:', 'job warm 8 release 000:')
+# The same under rule 2, which adds 128 to the atom count; rule 1 may be said too.
+RULED = U.replace('bound 12', 'rule 02\nbound 12')
+RULED_FILE = U_FILE[:-5] + b'\x85' + U_FILE[-4:]
+RULED_SHOWN = SHOWN.replace('open', 'rule 2\nopen')
+UNRULED = U.replace('bound 12', 'bound 12\nrule 1')
 ERRORS = [
     ('bounds 3', 1, 'a line begins with'),
     ('\n\nfacts a a', 3, 'fact a is named twice'),
@@ -50,8 +55,14 @@ ERRORS = [
     ('bound -1', 1, 'from 0 to 65535'),
     ('bound ' + '9' * 9999, 1, 'from 0 to 65535'),
     ('job a ' + '9' * 9999 + ': ->', 1, 'from 0 to 65535'),
-    ('atoms 256', 1, 'from 0 to 255'),
+    ('atoms 128', 1, 'from 0 to 127'),
     ('atoms 1\natoms 1', 2, 'given twice'),
+    ('rule', 1, 'takes one number'),
+    ('rule 1 2', 1, 'takes one number'),
+    ('rule 0', 1, 'the rule is 1 or 2'),
+    ('rule 3', 1, 'the rule is 1 or 2'),
+    ('rule two', 1, 'the rule is 1 or 2'),
+    ('rule 1\nrule 2', 2, 'given twice'),
     ('job', 1, 'a job is'),
     ('job a 3 ->', 1, 'a job is'),
     ('job a: ->', 1, 'a job is'),
@@ -87,6 +98,8 @@ BAD_FILES = [
 WARNED = [
     ('bound 5', 4, 0),
     ('facts a\natoms 65\nbound 5', 4, 0),
+    ('rule 2\nbound 5', 4, 0),
+    ('facts a\natoms 65\nrule 2\nbound 5', 4, 0),
     ('facts a\nbound 5\n' + '\n'.join(f'job a{n} 1: ->' for n in range(25)), 5, 0),
     ('facts a\nbound 5\njob b 1: ->\njob c 961: ->\njob d 0: ->', 6, 1),
     ('facts a\nbound 5\njob b 0: ->', 6, 0),
@@ -95,6 +108,7 @@ WARNED = [
     ('facts a b\natoms 1\nbound 2881\njob c 1: b -> a - a\njob d 1 release 2881: ->\nopen b', 20, 1),
     ('facts a b\natoms 1\nbound 5\njob c 1: a ->\njob d 1: b ->\nopen b', 7, 1),
     ('facts a b\natoms 1\nbound 5\ngoals b', 7, 24),
+    ('facts a b\natoms 1\nbound 5\nrule 2\ngoals b', 7, 24),
     ('facts a\nbound 2881\njob b 1: -> a - a', 8, 0),
     ('facts a\nbound 2881', 9, 0),
 ]
@@ -145,7 +159,7 @@ def random_file(dice):
     words = lambda: dice.getrandbits(bits) & dice.getrandbits(bits)
     times = lambda: (dice.getrandbits(16), dice.choice((0, dice.getrandbits(16))))
     records = b''.join(struct.pack('<QQQHH4x', words(), words(), words(), *times()) for _ in range(count))
-    atoms = dice.choice((0, bits, 64, 65, 255))
+    atoms = dice.choice((0, bits, 64, 65, 127)) + dice.choice((0, 128))
     return records + struct.pack('<QQHBBI', words(), words(), dice.getrandbits(16), count, atoms, len(records))
 
 
@@ -156,6 +170,9 @@ def cases():
     yield 'make of a release', run('make', LATE.encode()) == (0, LATE_FILE, '')
     yield 'show of a release', run('show', LATE_FILE) == (0, LATE_SHOWN.encode(), '')
     yield 'release 0', run('make', ON_TIME.encode()) == (0, U_FILE, '')
+    yield 'make of rule 2', run('make', RULED.encode()) == (0, RULED_FILE, '')
+    yield 'show of rule 2', run('show', RULED_FILE) == (0, RULED_SHOWN.encode(), '')
+    yield 'rule 1', run('make', UNRULED.encode()) == (0, U_FILE, '')
     dice = random.Random(4)
     for number in range(20):
         file = random_file(dice)
@@ -170,7 +187,7 @@ def cases():
         status, out, said = run('show', file)
         yield f'bad file {words!r}', (status, out) == (1, b'') and words in said
     yield 'usage', run('take', b'')[0] == 2
-    yield 'help', run('--help', b'')[::2] == (0, '') and b'release 6' in run('--help', b'')[1]
+    yield 'help', run('--help', b'')[::2] == (0, '') and all(word in run('--help', b'')[1] for word in (b'release 6', b'rule 2'))
     yield 'byte order mark', run('make', b'\xef\xbb\xbf' + U.encode()) == (0, U_FILE, '')
     yield 'zeros before a number', run('make', U.replace('bound 12', 'bound ' + '0' * 9999 + '12').encode()) == (0, U_FILE, '')
     table = refusal_words()
@@ -184,6 +201,7 @@ def cases():
         wanted = f'refusal {number}: {words}' + (f'; place {place}: {where}' if where != '0' else '') + '\n'
         yield f'warning of {number} at {place}', status == 0 and len(out) >= 24 and said.startswith('jobfile: warning: ') and said.endswith(wanted)
     yield 'no warning', run('make', IN_ORDER.encode())[::2] == (0, '')
+    yield 'no warning under rule 2', run('make', f'rule 2\n{IN_ORDER}'.encode())[::2] == (0, '')
     for command, words in UNABLE:
         yield f'unable: {command}', unable(command, words)
     yield 'a broken pipe', broken_pipe()

@@ -5,7 +5,6 @@ use mathlib.Core.Logic.{_⊎_, inl, inr}
 use mathlib.Core.Bool.{Bool, true, false, not, _&&_, _||_, and-assoc, and-false}
 use mathlib.Core.List.{List}
 use Prim.Native.Nat.{ℕ, _+_, _≤_, _<_}
-use native.Mathlib.Nat.{add-zero}
 use native.Mathlib.Omega.{arith}
 use borrow.Author.Tests.{eq-eqb, ne-eqb, lt-ltb, le-ltb}
 use lib.Dec.{T, eqb, leb, ltb, eqb→eq, eqb-refl, lt→ltb, ltb→lt}
@@ -120,16 +119,23 @@ module _ (l : Loaded) (q : Ask) (s : List ℕ) (a b : ℕ) where
   unfolding binds inPlan
   binds-out e = simp (eq-eqb _ _ e) (sym (and-false (startIn (getD s a 0))))
 
+  -- the first job is over in time, with this gap behind it
+  abbrev Over : (gap : ℕ) (y : Bool) → Type 0
+  Over gap y = y ≡ (startIn (getD s a 0) && leb (getD s a 0 + jobAt l a .duration + gap) (getD s b 0))
+
+  pub over-gap : {g : ℕ} {y : Bool} → g ≡ problem l q .gap → Over g y → Over (problem l q .gap) y
+  over-gap {y = y} z e = subst (λ (x : ℕ). Over x y) z e
+
   -- nor does a job that is not over in time
-  pub binds-no : {y : Bool} → y ≡ (startIn (getD s a 0) && leb (getD s a 0 + jobAt l a .duration) (getD s b 0)) → y ≡ false → false ≡ binds (problem l q) (starts s) a b
+  pub binds-no : {y : Bool} → Over (problem l q .gap) y → y ≡ false → false ≡ binds (problem l q) (starts s) a b
   unfolding binds inPlan
-  binds-no e t = simp add-zero (fit-no (startIn (getD s a 0)) (startIn (getD s b 0)) (leb (getD s a 0 + jobAt l a .duration) (getD s b 0)) _ (sym e ∙ t))
+  binds-no e t = fit-no (startIn (getD s a 0)) (startIn (getD s b 0)) (leb (getD s a 0 + jobAt l a .duration + problem l q .gap) (getD s b 0)) _ (sym e ∙ t)
 
   -- another binds where the jobs interfere or the first is a named support
-  pub binds-yes : {y z : Bool} → (getD s b 0 ≡ 65535 → ⊥) → y ≡ (startIn (getD s a 0) && leb (getD s a 0 + jobAt l a .duration) (getD s b 0)) → y ≡ true
+  pub binds-yes : {y z : Bool} → (getD s b 0 ≡ 65535 → ⊥) → Over (problem l q .gap) y → y ≡ true
       → z ≡ (interfere (problem l q) a b || (inPlan (starts s) b && feeds (problem l q) (starts s) a b)) → z ≡ binds (problem l q) (starts s) a b
   unfolding binds inPlan
   binds-yes n e t h =
       h ∙ ap (λ (x : Bool). interfere (problem l q) a b || (not x && feeds (problem l q) (starts s) a b)) (ne-eqb _ _ n)
-      ∙ simp (add-zero, ne-eqb _ _ n)
-      (fit-yes (startIn (getD s a 0)) true (leb (getD s a 0 + jobAt l a .duration) (getD s b 0)) (interfere (problem l q) a b || feeds (problem l q) (starts s) a b) (sym e ∙ t))
+      ∙ simp (ne-eqb _ _ n)
+      (fit-yes (startIn (getD s a 0)) true (leb (getD s a 0 + jobAt l a .duration + problem l q .gap) (getD s b 0)) (interfere (problem l q) a b || feeds (problem l q) (starts s) a b) (sym e ∙ t))

@@ -21,7 +21,7 @@ use Rattle.tables.specs.declared.Action.{Action}
 use Rattle.tables.specs.declared.Loaded.{Loaded}
 use Rattle.tables.specs.declared.Ask.{Ask}
 use Rattle.tables.specs.declared.Answer.{Answer}
-use Rattle.tables.specs.Tables.{noJob, problem, answerOf, changed}
+use Rattle.tables.specs.Tables.{noJob, unmarked, problem, answerOf, changed}
 use Rattle.tables.proofs.Lent.{filled-rest}
 use Rattle.verdict.specs.Offered.{offered}
 use Rattle.bindings.specs.Bindings.{pairVerdict, Pairs, written}
@@ -60,11 +60,11 @@ abbrev pub plan3 : List ℕ
 plan3 = 0 ∷ 7 ∷ 4 ∷ 4 ∷ []
 
 accepts3 : offered false jobsU (askU 28 12) plan3 accepted ≡ accepted
-unfolding boundCheck tableChecks jobChecks between strays jobStrays undoes planChecks refuseAt refuseIf late early clashes overlap unready missing interfere spoils holds finishes afterIf ends inPlan after has any least further
+unfolding boundCheck tableChecks jobChecks between strays jobStrays undoes planChecks refuseAt refuseIf late early clashes overlap unready missing interfere spoils holds finishes afterIf ends inPlan after has any least further unmarked
 accepts3 = refl
 
 pairs3 : pairBytes (problem jobsU (askU 28 12)) (starts plan3) ≡ 0 ∷ 1 ∷ 0 ∷ 2 ∷ 0 ∷ 3 ∷ 3 ∷ 1 ∷ []
-unfolding pairBytes joined pairIf binds feeds isJob named name startFits jobFits blocks interfere spoils inPlan has any least further
+unfolding pairBytes joined pairIf binds feeds isJob named name startFits jobFits blocks interfere spoils inPlan has any least further unmarked
 pairs3 = refl
 
 -- a made-up count breaks the promise
@@ -76,11 +76,11 @@ abbrev pub plan14 : List ℕ
 plan14 = 0 ∷ 4 ∷ 6 ∷ 65535 ∷ []
 
 accepts14 : offered false jobsU (askU 12 14) plan14 accepted ≡ accepted
-unfolding boundCheck tableChecks jobChecks between strays jobStrays undoes planChecks refuseAt refuseIf late early clashes overlap unready missing interfere spoils holds finishes afterIf ends inPlan after has any least further
+unfolding boundCheck tableChecks jobChecks between strays jobStrays undoes planChecks refuseAt refuseIf late early clashes overlap unready missing interfere spoils holds finishes afterIf ends inPlan after has any least further unmarked
 accepts14 = refl
 
 pairs14 : pairBytes (problem jobsU (askU 12 14)) (starts plan14) ≡ 0 ∷ 1 ∷ 0 ∷ 2 ∷ []
-unfolding pairBytes joined pairIf binds feeds isJob named name startFits jobFits blocks interfere spoils inPlan has any least further
+unfolding pairBytes joined pairIf binds feeds isJob named name startFits jobFits blocks interfere spoils inPlan has any least further unmarked
 pairs14 = refl
 
 -- the three pairs of that plan in plan order break the promise, by their count

@@ -124,7 +124,7 @@ fn binds(l: Loaded, q: Ask, s: &[u16], f: Feeders, a: usize, b: usize) -> bool
         return false;
     }
     let first = l.jobs[a];
-    if named::over_by(s[a], first.duration, s[b] as u32) {
+    if named::over_by(s[a], first.duration, tables::gap(q), s[b] as u32) {
         return interference::interferes(l, a, b) || facts::has(f.of[b], a);
     }
     false

@@ -34,7 +34,7 @@ none-below P mid n c l z v = n z (wider P c mid z (omega arith) v)
 
 -- ── one bound ──
 
-module _ {L K : List ℕ} {bound x : ℕ} (d : Sets L 227 x K) (z : x ≡ bound) (v : Served L bound) where
+module _ {L K : List ℕ} {bound x : ℕ} (d : Sets L 852 x K) (z : x ≡ bound) (v : Served L bound) where
   -- lists with the bound set are those of the problem at it
   pub lent-at : (P : Problem) → Listed L P → Lent K (record { problem = P; bound = bound })
   lent-at P t = subst (λ (y : ℕ). Lent K (record { problem = P; bound = y })) z (rebound-lent d P t (omega (arith, v .short)))

@@ -55,8 +55,9 @@ fn last_end(t: &Tables, out: &[u16; 24]) -> u64
 {
     let mut end: u64 = 0;
     let n = lent::count(t);
+    let gap = lent::gap(t);
     for j in 0..n {
-        end = later(out[j], lent::step(t, j), end);
+        end = later(out[j], lent::step(t, j) - gap, end);
     }
     end
 }
@@ -93,11 +94,11 @@ fn next(at: u16, low: u16, top: u16) -> u16
     requires { ⌜ (low ≤ at) × (at < top) ⌝ }
     ensures { λ r. ⌜ (at < r) × (r ≤ top) ⌝ }
 {
-    let gap = at - low + 1;
-    if top - at < gap {
+    let far = at - low + 1;
+    if top - at < far {
         return top;
     }
-    at + gap
+    at + far
 }
 
 // A range that holds the least bound, with a plan within its high end; 65,535 is the high end where there is no plan within top.

@@ -8,9 +8,12 @@ use Rattle.refusals.specs.Refusals.{refuseIf, refuseAt}
 use Rattle.rules.specs.Table.{between, strays, jobStrays, undoes, jobChecks, tableChecks, boundCheck}
 use Rattle.rules.specs.Plans.{inPlan, spoils, interfere, ends, afterIf, finishes, holds}
 use Rattle.rules.specs.Verdicts.{late, early, overlap, clashes, unready, missing, planChecks}
+use Rattle.rules.specs.Supports.{blocks, startFits, jobFits, name, named}
+use Rattle.rules.specs.Pairs.{isJob as supporting, feeds, binds, joined, pairIf, pairBytes}
 use Rattle.rules.specs.Estimates.{plus, cheapest, cost, condition, dearest}
 use Rattle.tenths.specs.Tenths.{inRange, tenths}
 use Rattle.tenths.specs.Rounding.{float}
+use Rattle.tables.specs.Tables.{unmarked}
 use Rattle.cases.specs.Jobs.{facts}
 use Rattle.cases.specs.Claims.{AllHold}
 use Rattle.cases.specs.Cases.{cases}
@@ -24,7 +27,7 @@ _also_ : {A B : Type 0} → A → B → A × B
 a also b = (a, b)
 
 pub all-hold : AllHold cases
-unfolding _also_ cases facts has after least further any refuseIf refuseAt between strays jobStrays undoes jobChecks tableChecks boundCheck inPlan spoils interfere ends afterIf finishes holds late early overlap clashes unready missing planChecks inRange tenths float some every addIf collect include dueIf exclude ahead behind isJob atLeast chain broken wants guards step refute hopeless sooner dueBefore noneBefore solves plus cheapest cost condition dearest
+unfolding _also_ cases unmarked blocks startFits jobFits name named supporting feeds binds joined pairIf pairBytes facts has after least further any refuseIf refuseAt between strays jobStrays undoes jobChecks tableChecks boundCheck inPlan spoils interfere ends afterIf finishes holds late early overlap clashes unready missing planChecks inRange tenths float some every addIf collect include dueIf exclude ahead behind isJob atLeast chain broken wants guards step refute hopeless sooner dueBefore noneBefore solves plus cheapest cost condition dearest
 all-hold =
     -- P1
     plans-ok refl refl tt
@@ -62,4 +65,15 @@ all-hold =
     also judged-ok refl refl
     also takes-ok refl
     also refuses-ok (omega arith) refl
+    -- Nine
+    also least-ok refl refl tt tt
+    also none-ok refl tt
+    also refl
+    also refl
+    also estimates-ok refl tt
+    also judged-ok refl refl
+    also refuses-ok (omega arith) refl
+    also refuses-ok (omega arith) refl
+    also refuses-ok (omega arith) refl
+    also takes-ok refl
     also tt

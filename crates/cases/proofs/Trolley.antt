@@ -14,6 +14,7 @@ use Rattle.rules.specs.Table.{tableChecks, jobChecks, between, jobStrays, stray
 use Rattle.rules.specs.Premises.{InOrder, adds, deletes}
 use Rattle.rules.specs.Plans.{Plan, holds, Valid}
 use Rattle.rules.proofs.Checked.{in-order}
+use Rattle.tables.specs.Tables.{unmarked}
 use Rattle.cases.specs.Jobs.{facts}
 use Rattle.cases.specs.Cases.{trolley}
 use Rattle.reach.specs.Reach.{PairSet, Closed, Reachable, Exact, EDeletes, by-needing}
@@ -61,7 +62,7 @@ pub houses-exclude : Reachable trolley 0 1 → ⊥
 houses-exclude h = h others closed
 
 ordered : InOrder trolley
-unfolding tableChecks jobChecks between jobStrays strays undoes refuseIf refuseAt any least has facts
+unfolding tableChecks jobChecks between jobStrays strays undoes refuseIf refuseAt any least has facts unmarked
 ordered = in-order trolley refl
 
 -- so no state of a valid plan has it in both

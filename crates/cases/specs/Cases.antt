@@ -1,12 +1,12 @@
 -- P1 to P11 of 01 and the numbers of 02 as one table. What a line claims of the rules is said in Claims.
 -- Assumes nothing.
 use mathlib.Core.List.{List, [], _∷_}
-use Prim.Native.Nat.{ℕ}
+use Prim.Native.Nat.{ℕ, _+_}
 use lib.IntN.{pos, negℤ}
 use Rattle.rules.specs.Table.{Problem}
 use Rattle.tenths.specs.Rounding.{float}
 use Rattle.cases.specs.Jobs.{action, problemOf, lasting, landing}
-use Rattle.cases.specs.Claims.{Claim, plans, noPlan, least, touching, offered, tenths, estimates, takes, refuses}
+use Rattle.cases.specs.Claims.{Claim, plans, noPlan, least, touching, offered, binding, tenths, estimates, takes, refuses}
 use Rattle.tables.specs.declared.Action.{Action}
 
 -- ── jobs U ──
@@ -27,9 +27,17 @@ warm = action (1 ∷ []) (3 ∷ []) [] 8
 abbrev pub wash : Action
 wash = action (1 ∷ []) (4 ∷ []) (2 ∷ []) 3
 
--- all four jobs, five facts, open {0}
+-- all four jobs with this atom count, open {0}
+abbrev pub counting : (atoms : ℕ) (goals : List ℕ) → Problem
+counting atoms goals = problemOf (unpack ∷ drench ∷ warm ∷ wash ∷ []) atoms (0 ∷ []) goals
+
+-- five facts, by rule 1
 abbrev pub U : (goals : List ℕ) → Problem
-U goals = problemOf (unpack ∷ drench ∷ warm ∷ wash ∷ []) 5 (0 ∷ []) goals
+U goals = counting 5 goals
+
+-- the same by rule 2
+abbrev pub gapped : (goals : List ℕ) → Problem
+gapped goals = counting (128 + 5) goals
 
 -- the same with warm this long
 abbrev pub warming : (long : ℕ) → Problem
@@ -118,4 +126,20 @@ cases =
     ∷ takes (warmFrom 2880) 12
     -- Five: 2,881 is refused with 20 and the job's place
     ∷ refuses (warmFrom 2881) 12 20 2
+    -- Nine: P3 by rule 2: least bound 13, starts 0, 9, 5, 5
+    ∷ least (gapped (2 ∷ 3 ∷ 4 ∷ [])) 13 (0 ∷ 9 ∷ 5 ∷ 5 ∷ [])
+    -- Nine: within 12 there is no plan
+    ∷ noPlan (gapped (2 ∷ 3 ∷ 4 ∷ [])) 12
+    -- Nine: the pairs that bind are those of P3: 0-1, 0-2, 0-3, 3-1
+    ∷ binding (U (2 ∷ 3 ∷ 4 ∷ [])) (0 ∷ 7 ∷ 4 ∷ 4 ∷ []) (0 ∷ 1 ∷ 0 ∷ 2 ∷ 0 ∷ 3 ∷ 3 ∷ 1 ∷ [])
+    ∷ binding (gapped (2 ∷ 3 ∷ 4 ∷ [])) (0 ∷ 9 ∷ 5 ∷ 5 ∷ []) (0 ∷ 1 ∷ 0 ∷ 2 ∷ 0 ∷ 3 ∷ 3 ∷ 1 ∷ [])
+    -- Nine: the estimates are 0, 5, 5, 5
+    ∷ estimates (gapped (2 ∷ 3 ∷ 4 ∷ [])) (0 ∷ 5 ∷ 5 ∷ 5 ∷ [])
+    -- Nine: that plan with drench at 8, where it touches wash: refusal 12, place 1
+    ∷ offered (gapped (2 ∷ 3 ∷ 4 ∷ [])) 13 (0 ∷ 8 ∷ 5 ∷ 5 ∷ []) 12 1
+    -- Nine: the atom counts 128, 193 and 255 are refused with 4, 192 is 64 facts by rule 2
+    ∷ refuses (counting 128 []) 12 4 0
+    ∷ refuses (counting 193 []) 12 4 0
+    ∷ refuses (counting 255 []) 12 4 0
+    ∷ takes (counting 192 []) 12
     ∷ []

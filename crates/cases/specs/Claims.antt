@@ -11,6 +11,7 @@ use Rattle.refusals.specs.Refusals.{Verdict, accepted, refused}
 use Rattle.rules.specs.Table.{Problem, tableChecks, boundCheck}
 use Rattle.rules.specs.Plans.{Plan, starts, In, finish, interfere, Valid}
 use Rattle.rules.specs.Verdicts.{planChecks}
+use Rattle.rules.specs.Pairs.{pairBytes}
 use Rattle.rules.specs.Estimates.{Estimates}
 use Rattle.rules.specs.Order.{First, LeastBound, NoPlan, Planned, Bounded}
 use Rattle.tenths.specs.Tenths.{inRange, AreTenths}
@@ -27,6 +28,8 @@ pub data Claim : Type 0 where
   touching : Problem → (bound : ℕ) → (starts : List ℕ) → (first second : ℕ) → Claim
   -- the offered plan is refused with this number and place
   offered : Problem → (bound : ℕ) → (starts : List ℕ) → (number place : ℕ) → Claim
+  -- these are the binding pairs of the plan, two bytes a pair
+  binding : Problem → (starts bytes : List ℕ) → Claim
   -- the reading has these tenths
   tenths : Float → ℤ → Claim
   -- these are the earliest estimates
@@ -102,6 +105,7 @@ IsSo (noPlan P bound) = Refuses10 P bound
 IsSo (least P b l) = LeastIs P b (starts l)
 IsSo (touching P bound l a b) = Judged P bound (starts l) accepted × Touch P (starts l) a b
 IsSo (offered P bound l number place) = Judged P bound (starts l) (refused number place)
+IsSo (binding P l bytes) = pairBytes P (starts l) ≡ bytes
 IsSo (tenths x t) = HasTenths x t
 IsSo (estimates P l) = EstimatesAre P (starts l)
 IsSo (takes P bound) = Taken P bound

@@ -18,7 +18,7 @@ use Rattle.rules.specs.Verdicts.{late, early, overlap, clashes, unready, missin
 use Rattle.rules.proofs.Judged.{judged}
 use Rattle.rules.proofs.Orders.{wider}
 use Rattle.tables.specs.declared.Answer.{Answer}
-use Rattle.tables.specs.Tables.{problem, callChecks}
+use Rattle.tables.specs.Tables.{unmarked, problem, callChecks}
 use Rattle.tables.proofs.Lent.{filled-at}
 use Rattle.rules.proofs.Checked.{in-order}
 use Rattle.bindings.proofs.Useless.{jobsU, askU, plan3}
@@ -34,11 +34,11 @@ abbrev P3 : Problem
 P3 = problem jobsU (askU 28 14)
 
 table1 : tableChecks P1 accepted ≡ accepted
-unfolding tableChecks jobChecks between strays jobStrays undoes refuseAt refuseIf has any least further
+unfolding tableChecks jobChecks between strays jobStrays undoes refuseAt refuseIf has any least further unmarked
 table1 = refl
 
 table3 : tableChecks P3 accepted ≡ accepted
-unfolding tableChecks jobChecks between strays jobStrays undoes refuseAt refuseIf has any least further
+unfolding tableChecks jobChecks between strays jobStrays undoes refuseAt refuseIf has any least further unmarked
 table3 = refl
 
 order1 : InOrder P1
@@ -50,14 +50,14 @@ order3 = in-order P3 table3
 -- ── plans that are valid, and plans that are not ──
 
 p1 : planChecks P1 12 (starts (0 ∷ 4 ∷ 4 ∷ 65535 ∷ [])) accepted ≡ accepted
-unfolding planChecks refuseAt refuseIf late early clashes overlap unready missing interfere spoils holds finishes afterIf ends inPlan after has any least further
+unfolding planChecks refuseAt refuseIf late early clashes overlap unready missing interfere spoils holds finishes afterIf ends inPlan after has any least further unmarked
 p1 = refl
 
 valid1 : Valid P1 12 (starts (0 ∷ 4 ∷ 4 ∷ 65535 ∷ []))
 valid1 = judged P1 order1 12 (starts (0 ∷ 4 ∷ 4 ∷ 65535 ∷ [])) .0 p1
 
 p3 : planChecks P3 12 (starts plan3) accepted ≡ accepted
-unfolding planChecks refuseAt refuseIf late early clashes overlap unready missing interfere spoils holds finishes afterIf ends inPlan after has any least further
+unfolding planChecks refuseAt refuseIf late early clashes overlap unready missing interfere spoils holds finishes afterIf ends inPlan after has any least further unmarked
 p3 = refl
 
 valid3 : Valid P3 12 (starts plan3)
@@ -72,17 +72,17 @@ abbrev pub untouched : List ℕ
 untouched = 0 ∷ 0 ∷ 0 ∷ 0 ∷ []
 
 empty-fails : planChecks P1 12 (starts empty) accepted ≡ refused 14 2
-unfolding planChecks refuseAt refuseIf late early clashes overlap unready missing interfere spoils holds finishes afterIf ends inPlan after has any least further
+unfolding planChecks refuseAt refuseIf late early clashes overlap unready missing interfere spoils holds finishes afterIf ends inPlan after has any least further unmarked
 empty-fails = refl
 
 untouched-fails : planChecks P1 12 (starts untouched) accepted ≡ refused 12 1
-unfolding planChecks refuseAt refuseIf late early clashes overlap unready missing interfere spoils holds finishes afterIf ends inPlan after has any least further
+unfolding planChecks refuseAt refuseIf late early clashes overlap unready missing interfere spoils holds finishes afterIf ends inPlan after has any least further unmarked
 untouched-fails = refl
 
 -- ── the promise at P1 ──
 
 passes1 : callChecks false 12 jobsU (askU 12 12) accepted ≡ accepted
-unfolding boundCheck tableChecks jobChecks between strays jobStrays undoes refuseAt refuseIf has any least further
+unfolding boundCheck tableChecks jobChecks between strays jobStrays undoes refuseAt refuseIf has any least further unmarked
 passes1 = refl
 
 module _ (old new : List ℕ) (r : Answer) (room : 4 ≤ length old) (p : PlansWithin jobsU (askU 12 12) old new r) where
@@ -115,7 +115,7 @@ module _ (old new : List ℕ) (r : Answer) (room : 4 ≤ length old) (p : PlansW
 -- ── the promise at P3 ──
 
 passes3 : callChecks false 14 jobsU (askU 28 14) accepted ≡ accepted
-unfolding boundCheck tableChecks jobChecks between strays jobStrays undoes refuseAt refuseIf has any least further
+unfolding boundCheck tableChecks jobChecks between strays jobStrays undoes refuseAt refuseIf has any least further unmarked
 passes3 = refl
 
 module _ (old new : List ℕ) (r : Answer) (p : BoundsWithin jobsU (askU 28 14) old new r) where

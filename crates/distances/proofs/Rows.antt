@@ -56,18 +56,19 @@ greatest-le w costs m (suc k) h = go (T? (has w k)) (greatest-le w costs m k (λ
 -- ── the loop that fills a row ──
 
 -- the row with the end, and the first n estimates
-pub record Behinds (dur : ℕ) (est : List ℕ) (end : ℕ) (row : List ℕ) (n : ℕ) : Type 0 where
+pub record Behinds (dur gap : ℕ) (est : List ℕ) (end : ℕ) (row : List ℕ) (n : ℕ) : Type 0 where
   pub size : length row ≡ 25
-  pub jobs : (b : ℕ) → b < n → entry row b ≤ dur + entry est b
+  pub jobs : (b : ℕ) → b < n → entry row b ≤ dur + gap + entry est b
   pub last : entry row 24 ≤ dur + end
 
-pub behind-first : {dur : ℕ} (est : List ℕ) {end x : ℕ} → x ≡ plus dur end → Behinds dur est end (replicate 25 x) 0
+pub behind-first : {dur gap : ℕ} (est : List ℕ) {end x : ℕ} → x ≡ plus dur end → Behinds dur gap est end (replicate 25 x) 0
 behind-first {dur} est {end} {x} e = record { size = refl; jobs = λ b l. absurd (omega arith); last = omega (arith, getD-replicate 25 24 x 0 (omega arith), plus-le dur end) }
 
-pub behind-next : {dur : ℕ} {est : List ℕ} {end n x : ℕ} {row : List ℕ} → n < 24 → Behinds dur est end row n → x ≡ plus dur (entry est n) → Behinds dur est end (set row n x) (n + 1)
-behind-next {dur} {est} {end} {n} {x} {row} l f e = record {
+pub behind-next : {dur gap : ℕ} {est : List ℕ} {end n x step : ℕ} {row : List ℕ} → n < 24 → Behinds dur gap est end row n → step ≡ plus dur gap → x ≡ plus step (entry est n)
+    → Behinds dur gap est end (set row n x) (n + 1)
+behind-next {dur} {gap} {est} {end} {n} {x} {step} {row} l f s e = record {
   size = length-set row n x ∙ f .size;
-  jobs = set-more (λ k y. y ≤ dur + entry est k) row n x 0 (omega (arith, f .size)) (f .jobs) (omega (arith, plus-le dur (entry est n)));
+  jobs = set-more (λ k y. y ≤ dur + gap + entry est k) row n x 0 (omega (arith, f .size)) (f .jobs) (omega (arith, plus-le dur gap, plus-le step (entry est n)));
   last = omega (arith, getD-set-other row n 24 x 0 (λ q. omega arith), f .last);
 }
 
@@ -86,8 +87,8 @@ free-since l k q w r = λ t. record {
   deletions = λ i. r i t .deletions;
   duration = λ i. r i t .duration;
   release = λ i. r i t .release;
-  gap = 0;
-  atoms = q .atoms;
+  gap = problem l q .gap;
+  atoms = problem l q .atoms;
   opening = w;
   goals = q .goals;
 }
@@ -112,7 +113,7 @@ frees-all l k len e i = ap (λ (ts : List Action). recordAt ts i) e ∙ go (decL
 
 -- the row of job a, from the facts that it spares
 row-apart : (P : Problem) (a w : ℕ) (est : List ℕ) (end : ℕ) (row : List ℕ) → P .count ≤ 24 → SparedFacts P a w → Estimates (since P w) (entry est) → CostOf (since P w) (entry est) (P .goals) end
-    → RowWithin (P .duration a) est end row → InOrder P → Spacing P a (entry row)
+    → RowWithin (P .duration a) (P .gap) est end row → InOrder P → Spacing P a (entry row)
 row-apart P a w est end row few r x d h ok = record {
   starts = λ bound Q v ia b ib o. omega (arith, start-distance P ok bound Q v a ia w r (entry est) x b ib o, h .jobs b (omega (arith, ib .below)));
   ends = λ bound Q v ia.
@@ -128,10 +129,10 @@ row-apart P a w est end row few r x d h ok = record {
 
 -- worked out on the table without releases
 pub row-free : (l k : Loaded) (q : Ask) (a w : ℕ) (est : List ℕ) (end : ℕ) (row : List ℕ) → q .jobs ≤ 24 → Complement (jobAt k a .deletions) w → Estimates (problem k (sinceAsk q w)) (entry est)
-    → CostOf (problem k (sinceAsk q w)) (entry est) (q .goals) end → RowWithin (jobAt k a .duration) est end row → Frees l k → InOrder (problem l q) → Spacing (problem l q) a (entry row)
+    → CostOf (problem k (sinceAsk q w)) (entry est) (q .goals) end → RowWithin (jobAt k a .duration) (problem l q .gap) est end row → Frees l k → InOrder (problem l q) → Spacing (problem l q) a (entry row)
 row-free l k q a w est end row few s x d h r =
     row-apart (problem l q) a w est end row few
     (subst (λ (y : ℕ). Complement y w) (ap (λ (b : Action). b .deletions) (r a)) s)
     (subst (λ (P : Problem). Estimates P (entry est)) (free-since l k q w r) x)
     (subst (λ (P : Problem). CostOf P (entry est) (q .goals) end) (free-since l k q w r) d)
-    (subst (λ (y : ℕ). RowWithin y est end row) (ap (λ (b : Action). b .duration) (r a)) h)
+    (subst (λ (y : ℕ). RowWithin y (problem l q .gap) est end row) (ap (λ (b : Action). b .duration) (r a)) h)

@@ -43,7 +43,7 @@ SparedFacts P i w = (p : ℕ) → p < 64 → (deletes P i p → ⊥) → T (has 
 abbrev pub Complement : (w r : ℕ) → Type 0
 Complement w r = (p : ℕ) → p < 64 → (T (has w p) → ⊥) → T (has r p)
 
--- the row is no more than a duration and each estimate, at 24 no more than that and the end
-pub record RowWithin (dur : ℕ) (est : List ℕ) (end : ℕ) (row : List ℕ) : Type 0 where
-  pub jobs : (b : ℕ) → b < 24 → entry row b ≤ dur + entry est b
+-- the row is no more than a duration, the gap and each estimate, at 24 no more than the duration and the end
+pub record RowWithin (dur gap : ℕ) (est : List ℕ) (end : ℕ) (row : List ℕ) : Type 0 where
+  pub jobs : (b : ℕ) → b < 24 → entry row b ≤ dur + gap + entry est b
   pub last : entry row 24 ≤ dur + end

@@ -19,13 +19,14 @@ fn lacks(w: u64) -> u64
     !w
 }
 
-// An end and each estimate, behind a duration.
-fn behind(dur: u16, est: [u16; 24], end: u16) -> [u16; 25]
-    ensures { λ r. ⌜ RowWithin dur est end r ⌝ }
+// An end behind a duration, and each estimate behind that and the gap.
+fn behind(dur: u16, gap: u16, est: [u16; 24], end: u16) -> [u16; 25]
+    ensures { λ r. ⌜ RowWithin dur gap est end r ⌝ }
 {
+    let step = estimates::plus(dur, gap);
     let mut row = [estimates::plus(dur, end); 25];
     for b in 0..24 {
-        row[b] = estimates::plus(dur, est[b]);
+        row[b] = estimates::plus(step, est[b]);
     }
     row
 }
@@ -73,5 +74,5 @@ pub fn row(k: Loaded, q: Ask, a: usize) -> [u16; 25]
     };
     let est = estimates::estimate_all(k, since);
     let end = estimates::dearest(k, since, est, q.goals);
-    behind(job.duration, est, end)
+    behind(job.duration, tables::gap(q), est, end)
 }

@@ -1,4 +1,4 @@
--- Rounds of estimates where there is no gap.
+-- Rounds of estimates.
 -- Assumes nothing.
 use mathlib.Core.Path.{_≡_, sym, ap, _∙_}
 use mathlib.Core.Logic.{⊎-elim}
@@ -16,7 +16,7 @@ use Rattle.rules.proofs.Sums.{sum-falls, cond-yes, cond-no}
 use Rattle.rules.specs.Sums.{sum}
 use Rattle.rules.proofs.Early.{cost-free, cost-cap, dearest-mono, dearest-cap}
 use Rattle.entries.specs.Entries.{entry, Same}
-use Rattle.estimates.specs.Rounds.{greatest, Costs, NextRound}
+use Rattle.estimates.specs.Rounds.{greatest, lagging, Costs, NextRound}
 
 -- ── a job or a fact more, as a loop's counter says it ──
 
@@ -30,28 +30,30 @@ greatest-more w costs p = ap (greatest w costs) (sym (add-one p))
 
 -- ── costs ──
 
-pub cost-open : (P : Problem) (e : ℕ → ℕ) (p : ℕ) → T (has (P .opening) p) → 0 ≡ cost P e p
-cost-open P e p o = sym (cost-free P e p o)
+module _ (P : Problem) (e : ℕ → ℕ) (p : ℕ) where
+  pub cost-open : (lag : ℕ) → T (has (P .opening) p) → 0 ≡ lagging P e lag p
+  cost-open lag o = sym (cond-yes (has (P .opening) p) 0 (plus (cost P e p) lag) o)
 
-pub cost-closed : (P : Problem) (e : ℕ → ℕ) (p : ℕ) → (T (has (P .opening) p) → ⊥) → cheapest P e p (P .count) ≡ cost P e p
-unfolding cost
-cost-closed P e p n = sym (cond-no (has (P .opening) p) 0 (cheapest P e p (P .count)) n)
+  pub cost-closed : (lag : ℕ) → (T (has (P .opening) p) → ⊥) → plus (cheapest P e p (P .count)) lag ≡ lagging P e lag p
+  unfolding cost
+  cost-closed lag n =
+      ap (λ (c : ℕ). plus c lag) (sym (cond-no (has (P .opening) p) 0 (cheapest P e p (P .count)) n)) ∙ sym (cond-no (has (P .opening) p) 0 (plus (cost P e p) lag) n)
 
--- with no gap a condition costs what its fact costs
-condition-cost : (P : Problem) → P .gap ≡ 0 → (e : ℕ → ℕ) (p : ℕ) → condition P e p ≡ cost P e p
-unfolding condition plus
-condition-cost P z e p = ⊎-elim (λ o. cond-yes (has (P .opening) p) 0 _ o ∙ sym (cost-free P e p o))
-    (λ n. cond-no (has (P .opening) p) 0 _ n ∙ omega (arith, cost-cap P e p)) (T? (has (P .opening) p))
+  -- without a lag a fact costs what it costs
+  pub lag-none : lagging P e 0 p ≡ cost P e p
+  unfolding plus
+  lag-none = ⊎-elim (λ o. cond-yes (has (P .opening) p) 0 _ o ∙ sym (cost-free P e p o))
+      (λ n. cond-no (has (P .opening) p) 0 _ n ∙ omega (arith, cost-cap P e p)) (T? (has (P .opening) p))
 
 -- ── a round ──
 
-module _ (P : Problem) (gap : P .gap ≡ 0) where
+module _ (P : Problem) where
   -- the greater of the release and the greatest cost
-  pub greatest-is : (e : ℕ → ℕ) (costs : List ℕ) (i k : ℕ) → k ≤ 64 → Costs P e costs 64 → max (P .release i) (greatest (P .conditions i) costs k) ≡ dearest P e i k
-  unfolding greatest dearest
+  pub greatest-is : (e : ℕ → ℕ) (costs : List ℕ) (i k : ℕ) → k ≤ 64 → Costs (lagging P e (P .gap)) costs 64 → max (P .release i) (greatest (P .conditions i) costs k) ≡ dearest P e i k
+  unfolding greatest dearest condition
   greatest-is e costs i zero l h = omega arith
   greatest-is e costs i (suc p) l h =
-      let c : entry costs p ≡ condition P e p = h p (omega arith) ∙ sym (condition-cost P gap e p) in
+      let c : entry costs p ≡ condition P e p = h p (omega arith) in
       let r : max (P .release i) (greatest (P .conditions i) costs p) ≡ dearest P e i p = greatest-is e costs i p (omega arith) h in
       rw c (omega arith)
 

@@ -3,11 +3,11 @@ ghost use mathlib.Core.Path.{_≡_};
 ghost use mathlib.Core.Bool.{cond};
 ghost use Prim.Native.Nat.{_≤_, _<_, min, max};
 ghost use Rattle.facts.specs.Facts.{has};
-ghost use Rattle.rules.specs.Estimates.{plus, cost, Estimates};
+ghost use Rattle.rules.specs.Estimates.{plus, Estimates};
 ghost use Rattle.tables.specs.Tables.{problem};
 ghost use Rattle.tables.specs.Steps.{Released};
 ghost use Rattle.entries.specs.Entries.{entry};
-ghost use Rattle.estimates.specs.Rounds.{greatest, Costs, CostOf, NextRound};
+ghost use Rattle.estimates.specs.Rounds.{greatest, lagging, Costs, CostOf, NextRound};
 ghost use Rattle.estimates.specs.Earliest.{Earliest};
 use tables::Answer;
 use tables::Ask;
@@ -44,10 +44,10 @@ fn cost_by(add: u64, p: usize, e: u16, d: u16) -> u16
     65535
 }
 
-// What fact p costs.
-fn cost(l: Loaded, q: Ask, est: [u16; 24], p: usize) -> u16
+// What fact p costs, with a lag where it is not open.
+fn cost(l: Loaded, q: Ask, est: [u16; 24], lag: u16, p: usize) -> u16
     requires { ⌜ (q .jobs ≤ 24) × (p < 64) ⌝ }
-    ensures { λ r. ⌜ r ≡ cost (problem l q) (entry est) p ⌝ }
+    ensures { λ r. ⌜ r ≡ lagging (problem l q) (entry est) lag p ⌝ }
 {
     if facts::has(q.opening, p) {
         return 0;
@@ -59,17 +59,17 @@ fn cost(l: Loaded, q: Ask, est: [u16; 24], p: usize) -> u16
         let by = cost_by(a.additions, p, est[k], a.duration);
         best = lower(by, best);
     }
-    best
+    plus(best, lag)
 }
 
-// What every fact costs.
-fn costs(l: Loaded, q: Ask, est: [u16; 24]) -> [u16; 64]
+// What every fact costs, with a lag where it is not open.
+fn costs(l: Loaded, q: Ask, est: [u16; 24], lag: u16) -> [u16; 64]
     requires { ⌜ q .jobs ≤ 24 ⌝ }
-    ensures { λ r. ⌜ Costs (problem l q) (entry est) r 64 ⌝ }
+    ensures { λ r. ⌜ Costs (lagging (problem l q) (entry est) lag) r 64 ⌝ }
 {
     let mut all = [0u16; 64];
     for p in 0..64 {
-        all[p] = cost(l, q, est, p);
+        all[p] = cost(l, q, est, lag, p);
     }
     all
 }
@@ -97,12 +97,12 @@ fn greatest(conditions: u64, costs: [u16; 64]) -> u16
     most
 }
 
-// What a word of facts costs: the greatest of their costs.
+// What a word of facts costs: the greatest of their costs, which have no gap.
 pub fn dearest(l: Loaded, q: Ask, est: [u16; 24], w: u64) -> u16
     requires { ⌜ q .jobs ≤ 24 ⌝ }
     ensures { λ r. ⌜ CostOf (problem l q) (entry est) w r ⌝ }
 {
-    greatest(w, costs(l, q, est))
+    greatest(w, costs(l, q, est, 0))
 }
 
 // A job's estimate: the greater of its release and the greatest cost of its conditions.
@@ -117,7 +117,7 @@ fn round(l: Loaded, q: Ask, est: [u16; 24]) -> [u16; 24]
     requires { ⌜ q .jobs ≤ 24 ⌝ }
     ensures { λ r. ⌜ NextRound (problem l q) (entry est) r (q .jobs) ⌝ }
 {
-    let costs = costs(l, q, est);
+    let costs = costs(l, q, est, tables::gap(q));
     let n = q.jobs;
     let mut next = est;
     for i in 0..n {

@@ -22,6 +22,7 @@ use Rattle.tables.specs.declared.Loaded.{Loaded}
 use Rattle.tables.specs.declared.Ask.{Ask}
 use Rattle.tables.specs.declared.Answer.{Answer}
 use Rattle.tables.specs.Tables.{noJob, jobAt, problem, answerOf, changed, callChecks}
+use Rattle.tables.proofs.Laws.{unmarked-sum, gap-one}
 use Rattle.tables.proofs.Calls.{call-passed, cleared}
 use Rattle.tables.proofs.Lent.{filled-at, filled-same}
 use Rattle.bytes_le.specs.Little.{number, laid}
@@ -65,8 +66,8 @@ accepted-write l q used size h =
 module _ (l : Loaded) (q : Ask) (p : Passed (problem l q)) (bound : q .bound ≤ 2880) where
   trailer-read : (t : List ℕ) → Stands (trailerOf q) 0 t → (askIn t ≡ saved q) × (distanceIn t ≡ 32 * q .jobs)
   trailer-read t s =
-      let a = p .atoms in
       let n = p .count in
+      let a : q .atoms ≤ 192 = omega (arith, p .atoms .1, unmarked-sum (q .atoms), gap-one (q .atoms)) in
       let f = fields-found (trailerFields q) 0 0 t (passed-opening (problem l q) p, (passed-goals (problem l q) p, (omega arith, (omega arith, (omega arith, (omega arith, tt)))))) s in
       (cc (f .0, f .1 .0, f .1 .1 .0, f .1 .1 .1 .0, f .1 .1 .1 .1 .0), f .1 .1 .1 .1 .1 .0)
 

@@ -25,13 +25,13 @@ pub checks-same : (l l′ : Loaded) (q : Ask) (v : Verdict) → ((i : ℕ) → i
     → tableChecks (problem l q) v ≡ tableChecks (problem l′ q) v
 unfolding tableChecks jobChecks jobStrays undoes
 checks-same l l′ q v h =
-    ap (λ (x : Verdict). refuseIf (not (between 1 64 (q .atoms))) 4 0 (refuseIf (ltb 24 (q .jobs)) 5 0 x))
+    ap (λ (x : Verdict). refuseIf (not (between 1 64 (problem l q .atoms))) 4 0 (refuseIf (ltb 24 (q .jobs)) 5 0 x))
     (each-same long l l′ (q .jobs) 6 _ h
     ∙ ap (refuseAt (λ i. long (jobAt l′ i)) (q .jobs) 6)
     (each-same late l l′ (q .jobs) 20 _ h
     ∙ ap (refuseAt (λ i. late (jobAt l′ i)) (q .jobs) 20)
-    (each-same (strayRecord (q .atoms)) l l′ (q .jobs) 7 _ h
-    ∙ ap (λ (x : Verdict). refuseAt (λ i. strayRecord (q .atoms) (jobAt l′ i)) (q .jobs) 7 (refuseIf (strays (q .atoms) (q .opening) || strays (q .atoms) (q .goals)) 7 24 x))
+    (each-same (strayRecord (problem l q .atoms)) l l′ (q .jobs) 7 _ h
+    ∙ ap (λ (x : Verdict). refuseAt (λ i. strayRecord (problem l q .atoms) (jobAt l′ i)) (q .jobs) 7 (refuseIf (strays (problem l q .atoms) (q .opening) || strays (problem l q .atoms) (q .goals)) 7 24 x))
     (each-same both l l′ (q .jobs) 8 v h))))
   where
     long : Action → Bool

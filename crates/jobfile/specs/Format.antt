@@ -27,7 +27,7 @@ unfoldable pub recordsOf : Loaded → ℕ → List ℕ
 recordsOf l zero = []
 recordsOf l (suc k) = recordsOf l k ++ recordOf (jobAt l k)
 
--- a trailer: opening facts (8), goals (8), bound (2), job count (1), atom count (1), distance (4), which is exactly 32 times the job count
+-- a trailer: opening facts (8), goals (8), bound (2), job count (1), atom count with the mark of its rule (1), distance (4), which is exactly 32 times the job count
 abbrev pub trailerFields : Ask → List (ℕ × ℕ)
 trailerFields q = (8, q .opening) ∷ (8, q .goals) ∷ (2, q .bound) ∷ (1, q .jobs) ∷ (1, q .atoms) ∷ (4, 32 * q .jobs) ∷ []
 

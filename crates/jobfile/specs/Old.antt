@@ -1,15 +1,17 @@
--- How 01 read a job file, when records had no release: the last six bytes of a record were zeros.
+-- How 01 read a job file, when records had no release and there was one rule: the last six bytes of a record were zeros, and the atom count had no mark.
 -- Assumes nothing.
-use mathlib.Core.Bool.{Bool, false, not}
+use mathlib.Core.Bool.{Bool, not}
 use mathlib.Core.List.{List}
 use Prim.Native.Nat.{ℕ, _+_, _*_, min}
 use lib.Dec.{eqb, ltb}
 use lib.ListN.{length, getD}
 use Rattle.facts.specs.Least.{any}
 use Rattle.refusals.specs.Refusals.{Verdict, accepted, refuseIf}
+use Rattle.rules.specs.Table.{Problem, tableChecks, boundCheck}
 use Rattle.tables.specs.declared.Action.{Action}
 use Rattle.tables.specs.declared.Loaded.{Loaded}
-use Rattle.tables.specs.Tables.{tabled, callChecks}
+use Rattle.tables.specs.declared.Ask.{Ask}
+use Rattle.tables.specs.Tables.{tabled, problem}
 use Rattle.bytes_le.specs.Little.{number}
 use Rattle.jobfile.specs.declared.Read.{Read}
 use Rattle.jobfile.specs.Format.{trailerAt, trailerIn, askIn, distanceIn, tooFar, recordsIn}
@@ -33,14 +35,33 @@ action01 rs i = record {
 abbrev pub table01 : List ℕ → (room : ℕ) → Loaded
 table01 file room = tabled (action01 (recordsIn file)) (min (askIn (trailerIn file) .jobs) 24) room
 
--- the checks of the reader: check 20 takes every job without a release
+-- the problem: the whole byte is the atom count, and there is no gap
+abbrev pub problem01 : Loaded → Ask → Problem
+problem01 l q = record {
+  count = problem l q .count;
+  conditions = problem l q .conditions;
+  additions = problem l q .additions;
+  deletions = problem l q .deletions;
+  duration = problem l q .duration;
+  release = problem l q .release;
+  gap = 0;
+  atoms = q .atoms;
+  opening = problem l q .opening;
+  goals = problem l q .goals;
+}
+
+-- the checks of the table: check 20 takes every job without a release
+abbrev pub tableChecks01 : Loaded → Ask → Verdict
+tableChecks01 l q = refuseIf (ltb (l .lent) (q .jobs)) 3 0 (tableChecks (problem01 l q) (boundCheck (q .bound) accepted))
+
+-- the checks of the reader
 unfoldable pub readChecks01 : List ℕ → (room : ℕ) → Verdict
 readChecks01 file room =
     refuseIf (ltb 65536 (length file)) 1 0
     (refuseIf (ltb (length file) 24) 2 0
     (refuseIf (tooFar (distanceIn (trailerIn file)) (askIn (trailerIn file) .jobs) (trailerAt file)) 2 0
     (refuseIf (any (spoilt01 (recordsIn file)) (askIn (trailerIn file) .jobs)) 2 0
-    (callChecks false (askIn (trailerIn file) .bound) (table01 file room) (askIn (trailerIn file)) accepted))))
+    (tableChecks01 (table01 file room) (askIn (trailerIn file))))))
 
 -- what the reader returned
 abbrev pub reading01 : List ℕ → (room : ℕ) → Read

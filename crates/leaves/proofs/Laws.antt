@@ -123,7 +123,7 @@ module _ {s L q : List ℕ} (ok : LeafOk s L) (ns : (j : ℕ) → T (has (wordAt
 
   module _ (P : Search) (l : Lent L P) where
     at : (j : ℕ) → T (view s .inside j) → planOf q j ≡ view s .lo j
-    at j i = st .each j (ns j i) .in? i (omega (arith, stands j i .ends, l .bound, l .short))
+    at j i = st .each j (ns j i) .in? i (omega (arith, stands j i .ends, l .listed .steps j (ns j i), l .listed .gap, l .bound, l .short))
 
     below : (j : ℕ) → T (view s .inside j) → j < P .problem .count
     below j i = omega (arith, stands j i .below, l .listed .count)

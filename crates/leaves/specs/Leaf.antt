@@ -10,7 +10,7 @@ use Rattle.rules.specs.Plans.{Plan}
 use Rattle.rules.specs.Sums.{sum}
 use Rattle.states.specs.State.{Search, Dead, PlanIn}
 use Rattle.cells.specs.View.{view, Prunes}
-use Rattle.lent.specs.Lent.{stepOf, estOf, countOf, boundOf, Lent}
+use Rattle.lent.specs.Lent.{stepOf, estOf, countOf, gapOf, boundOf, Lent}
 use Rattle.lent.specs.Consumers.{NoFlaw}
 use Rattle.leaves.specs.declared.Pair.{Pair}
 
@@ -76,12 +76,12 @@ pub record SettledBy (L s r : List ℕ) (ok : Bool) : Type 0 where
   pub prunes : Prunes (Lent L) s r
   pub rest : AtRest L r ok
 
--- job j is of the table, not barred, in its window and in the bound
+-- job j is of the table, not barred, in its window and in the bound, which needs no gap
 pub record InPlace (s L : List ℕ) (j : ℕ) : Type 0 where
   pub below : j < countOf L
   pub free : T (view s .barred j) → ⊥
   pub window : view s .lo j ≤ view s .hi j
-  pub ends : view s .lo j + stepOf L j ≤ boundOf L
+  pub ends : view s .lo j + stepOf L j ≤ boundOf L + gapOf L
 
 -- job j is in place, if it is inside
 abbrev pub InPlaceIf : (s L : List ℕ) (j : ℕ) → Type 0

@@ -143,7 +143,7 @@ fn stands_at(s: &State, j: usize, t: &Tables) -> bool
     if cells::hi(s, j) < cells::lo(s, j) {
         return false;
     }
-    cells::sum(cells::lo(s, j), lent::step(t, j)) <= jobs::wide(lent::bound(t))
+    cells::sum(cells::lo(s, j), lent::step(t, j)) <= cells::sum(lent::bound(t), lent::gap(t))
 }
 
 // The same of all jobs.

@@ -57,9 +57,13 @@ ledOf T a = half T (a + 828)
 abbrev pub countOf : List ℕ → ℕ
 countOf T = half T 226
 
+-- the gap between jobs that bind
+abbrev pub gapOf : List ℕ → ℕ
+gapOf T = half T 227
+
 -- the bound
 abbrev pub boundOf : List ℕ → ℕ
-boundOf T = half T 227
+boundOf T = half T 852
 
 -- ── the list is the problem's ──
 
@@ -81,7 +85,7 @@ pub record Spacing (P : Problem) (a : ℕ) (x : ℕ → ℕ) : Type 0 where
   pub starts : (bound : ℕ) (Q : Plan) → Valid P bound Q → In P Q a → (b : ℕ) → In P Q b → Over P Q a b → Q a + x b ≤ Q b
   pub ends : (bound : ℕ) (Q : Plan) → Valid P bound Q → In P Q a → Q a + x 24 ≤ bound
 
--- all but the bound is the problem's; there is no gap, and no job begins before its release
+-- all but the bound is the problem's, and no job begins before its release
 pub record Listed (L : List ℕ) (P : Problem) : Type 0 where
   pub wf : InOrder P
   pub few : P .count ≤ 24
@@ -97,7 +101,7 @@ pub record Listed (L : List ℕ) (P : Problem) : Type 0 where
   pub early : (bound : ℕ) (Q : Plan) → Valid P bound Q → (j : ℕ) → In P Q j → estOf L j ≤ Q j
   pub apart : (a : ℕ) → a < P .count → Spacing P a (waitOf L a)
   pub leads : (a : ℕ) → a < 24 → ledOf L a < 24 → (bound : ℕ) → Leads (record { problem = P; bound = bound }) a (ledOf L a)
-  pub gap : P .gap ≡ 0
+  pub gap : P .gap ≡ gapOf L
   pub release : (j : ℕ) → j < P .count → P .release j ≤ estOf L j
 
 -- so is the bound, which is no mark

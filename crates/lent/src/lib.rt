@@ -5,9 +5,9 @@ ghost use lib.ListN.{length};
 ghost use Rattle.facts.specs.Facts.{has};
 ghost use Rattle.facts.specs.Least.{least};
 ghost use Rattle.cells.specs.View.{Sets};
-ghost use Rattle.lent.specs.Lent.{wantsOf, openingOf, addersOf, killersOf, stepOf, hitsOf, countOf, boundOf, estOf, waitOf, ledOf};
+ghost use Rattle.lent.specs.Lent.{wantsOf, openingOf, addersOf, killersOf, stepOf, hitsOf, countOf, gapOf, boundOf, estOf, waitOf, ledOf};
 
-pub type Tables = [u64; 852];
+pub type Tables = [u64; 853];
 
 // The lower half of a word.
 fn low(x: u64) -> u32
@@ -101,11 +101,18 @@ pub fn count(t: &Tables) -> usize
     low(t[226]) as usize
 }
 
+// The gap between jobs that bind.
+pub fn gap(t: &Tables) -> u32
+    ensures { λ r. ⌜ r ≡ gapOf (now (t .entry)) ⌝ }
+{
+    low(t[227])
+}
+
 // The bound.
 pub fn bound(t: &Tables) -> u32
     ensures { λ r. ⌜ r ≡ boundOf (now (t .entry)) ⌝ }
 {
-    low(t[227])
+    low(t[852])
 }
 
 // The word at i is x.
@@ -134,7 +141,7 @@ pub fn put_led(t: &mut Tables, a: usize, n: usize)
 
 // The bound is x.
 pub fn put_bound(t: &mut Tables, x: u32)
-    ensures { λ _. ⌜ Sets (now (t .entry)) 227 x (now (t .exit)) ⌝ }
+    ensures { λ _. ⌜ Sets (now (t .entry)) 852 x (now (t .exit)) ⌝ }
 {
-    put(t, 227, x as u64);
+    put(t, 852, x as u64);
 }

@@ -4,7 +4,6 @@ use mathlib.Core.Path.{_≡_, sym, ap, _∙_}
 use mathlib.Core.Bool.{Bool, true, false, not, _&&_}
 use mathlib.Core.List.{List}
 use Prim.Native.Nat.{ℕ, _+_}
-use native.Mathlib.Nat.{add-zero}
 use lib.Dec.{eqb, leb, ltb}
 use lib.ListN.{getD}
 use Rattle.facts.specs.Facts.{has}
@@ -22,13 +21,12 @@ use Rattle.named.proofs.Tests.{way, fit-yes, fit-no, no-fact}
 
 module _ (l : Loaded) (q : Ask) (s : List ℕ) (c : Holder) where
   -- job d blocks the facts that it deletes
-  pub blocks-of : (p from d : ℕ) {y : Bool} → y ≡ (startIn (getD s d 0) && (ltb from (getD s d 0 + jobAt l d .duration) && ltb (getD s d 0) (c .till)))
-      → (has (jobAt l d .deletions) p && (y && not (eqb d (c .me)))) ≡ blocks (problem l q) (starts s) p (consumerOf c) 0 from d
+  pub blocks-of : (p lag from d : ℕ) {y : Bool} → y ≡ (startIn (getD s d 0) && (ltb from (getD s d 0 + jobAt l d .duration + lag) && ltb (getD s d 0) (c .till + c .lag)))
+      → (has (jobAt l d .deletions) p && (y && not (eqb d (c .me)))) ≡ blocks (problem l q) (starts s) p (consumerOf c) lag from d
   unfolding blocks inPlan
-  blocks-of p from d e =
+  blocks-of p lag from d e =
       ap (λ (x : Bool). has (jobAt l d .deletions) p && (x && not (eqb d (c .me)))) e
-      ∙ simp add-zero
-      (way (startIn (getD s d 0)) (has (jobAt l d .deletions) p) (not (eqb d (c .me))) (ltb from (getD s d 0 + jobAt l d .duration)) (ltb (getD s d 0) (c .till)))
+      ∙ way (startIn (getD s d 0)) (has (jobAt l d .deletions) p) (not (eqb d (c .me))) (ltb from (getD s d 0 + jobAt l d .duration + lag)) (ltb (getD s d 0) (c .till + c .lag))
 
   -- Start supports the opening facts that no job blocks
   pub start-of : (w v : ℕ) → Word (λ p. any (blocks (problem l q) (starts s) p (consumerOf c) 0 0) (q .jobs)) w → Word (λ p. has (q .opening) p && not (has w p)) v
@@ -37,17 +35,17 @@ module _ (l : Loaded) (q : Ask) (s : List ℕ) (c : Holder) where
   start-of w v g h p = h p ∙ ap (λ (x : Bool). has (q .opening) p && not x) (g p)
 
   -- job a supports what it adds and no job blocks, if it is over in time
-  pub job-of : (a w v : ℕ) {y : Bool} → y ≡ (startIn (getD s a 0) && leb (getD s a 0 + jobAt l a .duration) (c .at)) → y ≡ true
-      → Word (λ p. any (blocks (problem l q) (starts s) p (consumerOf c) 0 (getD s a 0)) (q .jobs)) w → Word (λ p. has (jobAt l a .additions) p && not (has w p)) v
+  pub job-of : (a w v : ℕ) {g : ℕ} {y : Bool} → y ≡ (startIn (getD s a 0) && leb (getD s a 0 + jobAt l a .duration + c .lag) (c .at)) → y ≡ true → g ≡ problem l q .gap
+      → Word (λ p. any (blocks (problem l q) (starts s) p (consumerOf c) g (getD s a 0)) (q .jobs)) w → Word (λ p. has (jobAt l a .additions) p && not (has w p)) v
       → Word (λ p. jobFits (problem l q) (starts s) p (consumerOf c) a) v
   unfolding jobFits inPlan
-  job-of a w v e t g h p =
-      h p ∙ ap (λ (x : Bool). has (jobAt l a .additions) p && not x) (g p)
-      ∙ simp add-zero (fit-yes (startIn (getD s a 0)) (has (jobAt l a .additions) p) (leb (getD s a 0 + jobAt l a .duration) (c .at)) _ (sym e ∙ t))
+  job-of a w v e t z g h p =
+      h p ∙ ap (λ (x : Bool). has (jobAt l a .additions) p && not x) (g p ∙ ap (λ (lag : ℕ). any (blocks (problem l q) (starts s) p (consumerOf c) lag (getD s a 0)) (q .jobs)) z)
+      ∙ fit-yes (startIn (getD s a 0)) (has (jobAt l a .additions) p) (leb (getD s a 0 + jobAt l a .duration + c .lag) (c .at)) _ (sym e ∙ t)
 
-  pub job-none : (a : ℕ) {y : Bool} → y ≡ (startIn (getD s a 0) && leb (getD s a 0 + jobAt l a .duration) (c .at)) → y ≡ false
+  pub job-none : (a : ℕ) {y : Bool} → y ≡ (startIn (getD s a 0) && leb (getD s a 0 + jobAt l a .duration + c .lag) (c .at)) → y ≡ false
       → Word (λ p. jobFits (problem l q) (starts s) p (consumerOf c) a) 0
   unfolding jobFits inPlan
   job-none a e t p =
       no-fact p
-      ∙ simp add-zero (fit-no (startIn (getD s a 0)) (has (jobAt l a .additions) p) (leb (getD s a 0 + jobAt l a .duration) (c .at)) _ (sym e ∙ t))
+      ∙ fit-no (startIn (getD s a 0)) (has (jobAt l a .additions) p) (leb (getD s a 0 + jobAt l a .duration + c .lag) (c .at)) _ (sym e ∙ t)

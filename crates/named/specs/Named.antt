@@ -14,7 +14,7 @@ use Rattle.named.specs.declared.Row.{Row}
 
 -- who has a condition, as the code says it
 abbrev pub consumerOf : Holder → Consumer
-consumerOf c = record { me = c .me; at = c .at; till = c .till; lag = 0 }
+consumerOf c = record { me = c .me; at = c .at; till = c .till; lag = c .lag }
 
 -- the row by words: the wanted facts of which Start is the named support, and of which job a is
 pub record RowOf (P : Problem) (s : Plan) (c : Consumer) (want : ℕ → Bool) (r : Row) : Type 0 where

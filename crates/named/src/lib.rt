@@ -14,11 +14,12 @@ ghost use Rattle.tables.specs.Tables.{problem};
 ghost use Rattle.verdict.specs.Steps.{Given, startIn};
 ghost use Rattle.named.specs.Named.{consumerOf, RowOf, RowAt};
 
-// Who has the conditions of a row, a job or End: its number, start and finish.
+// Who has the conditions of a row, a job or End: its number, start and finish, and the gap before and behind it.
 pub struct Holder {
     pub me: usize,
     pub at: u32,
     pub till: u32,
+    pub lag: u16,
 }
 
 // The conditions of a row by their named support: Start, or a job.
@@ -34,21 +35,21 @@ fn less(a: u64, b: u64) -> u64
     a & !b
 }
 
-// The job is in and finishes no later than `at`.
-pub fn over_by(start: u16, duration: u16, at: u32) -> bool
-    ensures { λ r. ⌜ r ≡ (startIn start && leb (start + duration) at) ⌝ }
+// The job is in and finishes, with a lag behind it, no later than `at`.
+pub fn over_by(start: u16, duration: u16, lag: u16, at: u32) -> bool
+    ensures { λ r. ⌜ r ≡ (startIn start && leb (start + duration + lag) at) ⌝ }
 {
-    start != 65535 && start as u32 + duration as u32 <= at
+    start != 65535 && start as u32 + duration as u32 + lag as u32 <= at
 }
 
-// The job is in, finishes after `from` and starts before `till`.
-fn in_way(start: u16, duration: u16, from: u32, till: u32) -> bool
-    ensures { λ r. ⌜ r ≡ (startIn start && (ltb from (start + duration) && ltb start till)) ⌝ }
+// The job is in, finishes, with a lag behind it, after `from`, and starts before `till` with the rear behind it.
+fn in_way(start: u16, duration: u16, lag: u16, from: u32, till: u32, rear: u16) -> bool
+    ensures { λ r. ⌜ r ≡ (startIn start && (ltb from (start + duration + lag) && ltb start (till + rear))) ⌝ }
 {
     if start == 65535 {
         return false;
     }
-    from < start as u32 + duration as u32 && (start as u32) < till
+    from < start as u32 + duration as u32 + lag as u32 && (start as u64) < till as u64 + rear as u64
 }
 
 // The word, where both tests pass.
@@ -63,16 +64,16 @@ fn word_if(first: bool, second: bool, w: u64) -> u64
     0
 }
 
-// The facts that some job deletes which is not the holder, and neither finishes by `from` nor starts after the holder's finish.
-fn blocked(l: Loaded, q: Ask, s: &[u16], c: Holder, from: u32) -> u64
+// The facts that some job deletes which is not the holder, and neither finishes a lag before `from` nor starts the holder's lag after its finish.
+fn blocked(l: Loaded, q: Ask, s: &[u16], c: Holder, lag: u16, from: u32) -> u64
     requires { ⌜ Given q (now s) ⌝ }
-    ensures { λ r. ⌜ Word (λ p. any (blocks (problem l q) (starts (now (s .entry))) p (consumerOf c) 0 from) (q .jobs)) r ⌝ }
+    ensures { λ r. ⌜ Word (λ p. any (blocks (problem l q) (starts (now (s .entry))) p (consumerOf c) lag from) (q .jobs)) r ⌝ }
 {
     let n = q.jobs;
     let mut w = 0u64;
     for d in 0..n {
         let a = l.jobs[d];
-        let way = in_way(s[d], a.duration, from, c.till);
+        let way = in_way(s[d], a.duration, lag, from, c.till, c.lag);
         w = w | word_if(way, d != c.me, a.deletions);
     }
     w
@@ -83,7 +84,7 @@ fn start_fits(l: Loaded, q: Ask, s: &[u16], c: Holder) -> u64
     requires { ⌜ Given q (now s) ⌝ }
     ensures { λ r. ⌜ Word (λ p. startFits (problem l q) (starts (now (s .entry))) p (consumerOf c)) r ⌝ }
 {
-    less(q.opening, blocked(l, q, s, c, 0))
+    less(q.opening, blocked(l, q, s, c, 0, 0))
 }
 
 // The facts that job a can support for the holder.
@@ -92,8 +93,11 @@ fn job_fits(l: Loaded, q: Ask, s: &[u16], c: Holder, a: usize) -> u64
     ensures { λ r. ⌜ Word (λ p. jobFits (problem l q) (starts (now (s .entry))) p (consumerOf c) a) r ⌝ }
 {
     let j = l.jobs[a];
-    if over_by(s[a], j.duration, c.at) {
-        return less(j.additions, blocked(l, q, s, c, s[a] as u32));
+    if over_by(s[a], j.duration, c.lag, c.at) {
+        return less(
+            j.additions,
+            blocked(l, q, s, c, tables::gap(q), s[a] as u32),
+        );
     }
     0
 }
@@ -118,14 +122,15 @@ fn named_row(l: Loaded, q: Ask, s: &[u16], c: Holder, want: u64) -> Row
     }
 }
 
-// Holder b by its start and its length.
-fn holder_at(b: usize, start: u16, duration: u16) -> Holder
-    ensures { λ r. ⌜ consumerOf r ≡ record { me = b; at = start; till = start + duration; lag = 0 } ⌝ }
+// Holder b by its start, its length and its lag.
+fn holder_at(b: usize, start: u16, duration: u16, lag: u16) -> Holder
+    ensures { λ r. ⌜ consumerOf r ≡ record { me = b; at = start; till = start + duration; lag = lag } ⌝ }
 {
     Holder {
         me: b,
         at: start as u32,
         till: start as u32 + duration as u32,
+        lag,
     }
 }
 
@@ -135,10 +140,10 @@ fn holder_of(l: Loaded, q: Ask, s: &[u16], b: usize) -> Holder
     ensures { λ r. ⌜ consumerOf r ≡ consumer (problem l q) (q .bound) (starts (now (s .entry))) (whoseRow (eqb b (q .jobs)) b) ⌝ }
 {
     if b == q.jobs {
-        return holder_at(b, q.bound, 0);
+        return holder_at(b, q.bound, 0, 0);
     }
     let a = l.jobs[b];
-    holder_at(b, s[b], a.duration)
+    holder_at(b, s[b], a.duration, tables::gap(q))
 }
 
 // The conditions of row b; a job that is out has none.

@@ -2,6 +2,6 @@
 -- Assumes nothing.
 use Prim.Native.Nat.{ℕ}
 
--- 1.1.0, as the header has it
+-- 1.2.0, as the header has it
 abbrev pub version : ℕ
-version = 10100
+version = 10200

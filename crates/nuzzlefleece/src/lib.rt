@@ -26,7 +26,7 @@ use tables::Loaded;
 pub extern "C" fn nuzzlefleece_version() -> u32
     ensures { λ r. ⌜ r ≡ version ⌝ }
 {
-    10100
+    10200
 }
 
 // The verdict on an offered plan.

@@ -20,6 +20,7 @@ use Rattle.tables.specs.declared.Loaded.{Loaded}
 use Rattle.tables.specs.declared.Ask.{Ask}
 use Rattle.tables.specs.Tables.{jobAt, problem}
 use Rattle.tables.specs.Steps.{Released}
+use Rattle.tables.proofs.Laws.{gap-one}
 use Rattle.entries.specs.Entries.{entry}
 use Rattle.reach.specs.Reach.{Closed, Exact, strong, EWords}
 use Rattle.reach.specs.Rows.{inRows, FitIn, deleting, EDone}
@@ -48,7 +49,7 @@ module _ (k : Loaded) (q : Ask) (few : q .jobs ≤ 24) (ok : InOrder (problem k 
   listed-of early held apart leads = record {
     wf = ok;
     few = few;
-    count = omega (arith, t 226 (omega arith) .there (omega arith) .there (omega arith) .there (omega arith) .there (omega arith) .there (omega arith) .there (omega arith) .there (omega arith) .there (omega arith));
+    count = omega (arith, t 226 (omega arith) .there (omega arith) .there (omega arith) .there (omega arith) .there (omega arith) .there (omega arith) .there (omega arith) .there (omega arith) .there (omega arith) .here (omega arith));
     opening = sym (t 25 (omega arith) .there (omega arith) .there (omega arith) .here (omega arith));
     conds = λ b l. sym (t b (omega arith) .here l);
     goals = sym (t 24 (omega arith) .there (omega arith) .here (omega arith));
@@ -60,7 +61,7 @@ module _ (k : Loaded) (q : Ask) (few : q .jobs ≤ 24) (ok : InOrder (problem k 
     early = λ bound Q v i h. omega (arith, begins i (omega (arith, h .below)), early bound Q v i h);
     apart = apart;
     leads = leads;
-    gap = refl;
+    gap = omega (arith, gap-one (q .atoms), t 227 (omega arith) .there (omega arith) .there (omega arith) .there (omega arith) .there (omega arith) .there (omega arith) .there (omega arith) .there (omega arith) .there (omega arith) .there (omega arith));
     release = λ i h. omega (arith, begins i (omega arith), held i h);
   }
 
@@ -90,8 +91,8 @@ module _ (l : Loaded) (q : Ask) (ok : InOrder (problem l q)) (rows : List ℕ) (
     deletions = D;
     duration = λ i. rest i t .duration;
     release = λ i. rest i t .release;
-    gap = 0;
-    atoms = q .atoms;
+    gap = P .gap;
+    atoms = P .atoms;
     opening = q .opening;
     goals = q .goals;
   }

@@ -45,7 +45,7 @@ pub record Upto (i n : ℕ) (A B : Type 0) : Type 0 where
   pub here : i < n → A
   pub there : n ≤ i → B
 
--- the word x at place i: conditions, goals, opening, adders, killers, durations, hits, estimates, and the count
+-- the word x at place i: conditions, goals, opening, adders, killers, durations with the gap, hits, estimates, the count and the gap
 abbrev pub Stands : Loaded → Ask → (est : List ℕ) (i x : ℕ) → Type 0
 Stands l q est i x =
     Upto i 24 (x ≡ jobAt l i .conditions)
@@ -53,10 +53,11 @@ Stands l q est i x =
     (Upto i 26 (x ≡ q .opening)
     (Upto i 90 (Cols (Among l q true (i - 26)) (x % 2 ^ 32) 24)
     (Upto i 154 (Cols (Among l q false (i - 90)) (x % 2 ^ 32) 24)
-    (Upto i 178 (x % 2 ^ 32 ≡ jobAt l (i - 154) .duration)
+    (Upto i 178 (x % 2 ^ 32 ≡ jobAt l (i - 154) .duration + problem l q .gap)
     (Upto i 202 (Cols (Hit l q (i - 178)) (x % 2 ^ 32) 24)
     (Upto i 226 (x % 2 ^ 32 ≡ getD est (i - 202) 0)
-    (x ≡ q .jobs))))))))
+    (Upto i 227 (x ≡ q .jobs)
+    (x ≡ problem l q .gap)))))))))
 
 -- the first n places of the table L
 abbrev pub Lists : Loaded → Ask → (est L : List ℕ) (n : ℕ) → Type 0

@@ -1,6 +1,6 @@
 // What a table sets out to the search: the lists it reads, and the state it begins from.
 ghost use mathlib.Core.Path.{_≡_};
-ghost use Prim.Native.Nat.{_≤_, _<_};
+ghost use Prim.Native.Nat.{_+_, _≤_, _<_, _^_};
 ghost use Rattle.facts.specs.Words.{Decides};
 ghost use Rattle.rules.specs.Premises.{InOrder};
 ghost use Rattle.tables.specs.Tables.{problem};
@@ -81,6 +81,13 @@ fn hits_of(l: Loaded, q: Ask, a: usize) -> u32
     w
 }
 
+// A duration with the gap behind it.
+fn step(duration: u16, gap: u16) -> u64
+    ensures { λ r. ⌜ (r ≡ duration + gap) × (r < 2 ^ 32) ⌝ }
+{
+    duration as u64 + gap as u64
+}
+
 // What stands at place i of the search's table; waits, leads and bound are put in later.
 fn entry(l: Loaded, q: Ask, est: [u16; 24], i: usize) -> u64
     ensures { λ r. ⌜ Stands l q est i r ⌝ }
@@ -103,7 +110,7 @@ fn entry(l: Loaded, q: Ask, est: [u16; 24], i: usize) -> u64
     }
     if i < 178 {
         let a = l.jobs[i - 154];
-        return a.duration as u64;
+        return step(a.duration, tables::gap(q));
     }
     if i < 202 {
         return hits_of(l, q, i - 178) as u64;
@@ -111,14 +118,17 @@ fn entry(l: Loaded, q: Ask, est: [u16; 24], i: usize) -> u64
     if i < 226 {
         return est[i - 202] as u64;
     }
-    q.jobs as u64
+    if i < 227 {
+        return q.jobs as u64;
+    }
+    tables::gap(q) as u64
 }
 
 // The table of the search, but for the waits, the leads and the bound.
 fn listed(l: Loaded, q: Ask, est: [u16; 24]) -> Tables
     ensures { λ r. ⌜ Lists l q est r 228 ⌝ }
 {
-    let mut t = [0u64; 852];
+    let mut t = [0u64; 853];
     for i in 0..228 {
         t[i] = entry(l, q, est, i);
     }

@@ -4,21 +4,20 @@ use mathlib.Core.Path.{_≡_, refl, _∙_, subst}
 use mathlib.Core.Logic.{inl, inr, _≢_}
 use mathlib.Core.Bool.{Bool, true}
 use mathlib.Core.List.{List}
-use Prim.Native.Nat.{ℕ, _+_, _≤_, min}
+use Prim.Native.Nat.{ℕ, _≤_, min}
 use native.Mathlib.Omega.{arith}
 use lib.Dec.{ltb}
 use lib.ListN.{length}
 use Rattle.facts.proofs.Lists.{getD-any}
 use Rattle.refusals.specs.Refusals.{accepted, refused}
-use Rattle.rules.specs.Premises.{InOrder}
+use Rattle.rules.specs.Premises.{InOrder, enoughTime}
 use Rattle.rules.specs.Plans.{Plan}
 use Rattle.rules.specs.Order.{First, LeastBound, NoPlan}
-use Rattle.rules.specs.Sums.{sum, most}
 use Rattle.rules.proofs.Enough.{enough, enough-first}
 use Rattle.tables.specs.declared.Loaded.{Loaded}
 use Rattle.tables.specs.declared.Ask.{Ask}
 use Rattle.tables.specs.declared.Answer.{Answer}
-use Rattle.tables.specs.Tables.{jobAt, problem, answerOf, filled}
+use Rattle.tables.specs.Tables.{problem, answerOf, filled}
 use Rattle.tables.specs.Steps.{Judges, Cleared}
 use Rattle.tables.proofs.Lent.{filled-same}
 use Rattle.tables.proofs.Calls.{call-checks}
@@ -30,9 +29,9 @@ use Rattle.planning.specs.Planning.{planningChecks, PlansWithin, BoundsW
 
 -- ── enough time ──
 
--- the bound, or the latest release and all durations where that is less
+-- the bound, or what is enough where that is less
 abbrev pub top : Loaded → Ask → ℕ
-top l q = min (q .bound) (most (λ a. jobAt l a .release) (q .jobs) + sum (λ a. jobAt l a .duration + 0) (q .jobs))
+top l q = min (q .bound) (enoughTime (problem l q))
 
 module _ (l : Loaded) (q : Ask) (ok : InOrder (problem l q)) (short : q .bound ≤ 2880) where
   -- the first plan within enough time is the first within the bound

@@ -9,9 +9,10 @@ use native.Mathlib.Numerals.{add-one}
 use lib.Dec.{T}
 use Rattle.rules.specs.Table.{Problem}
 use Rattle.rules.specs.Plans.{Plan, Valid}
+use Rattle.rules.specs.Premises.{enoughTime}
 use Rattle.rules.specs.Order.{First, LeastBound, NoPlan}
 use Rattle.rules.specs.Sums.{sum, most}
-use Rattle.tables.specs.Tables.{problem}
+use Rattle.tables.specs.Tables.{jobAt, problem}
 use Rattle.tables.specs.declared.Loaded.{Loaded}
 use Rattle.tables.specs.declared.Ask.{Ask}
 use Rattle.states.specs.State.{Search}
@@ -29,7 +30,7 @@ use Rattle.planning.specs.Derived.{PlanAt, FirstAt, LeastOf}
 
 -- ── one bound ──
 
-module _ {L K : List ℕ} {bound x : ℕ} (d : Sets L 227 x K) (z : x ≡ bound) (v : Served L bound) where
+module _ {L K : List ℕ} {bound x : ℕ} (d : Sets L 852 x K) (z : x ≡ bound) (v : Served L bound) where
   pub begins-at : (s : List ℕ) (f : (P : Search) → Lent K P → FitsAll P s) {q : List ℕ} → SomeAt L bound q → BeginsSo (Lent K) 0 s q
   begins-at s f {q} w = record {
     prefix = λ P o. firsts.begin P (o .listed .wf) (view s) (planOf q) (subst (λ (b : ℕ). Valid (P .problem) b (planOf q)) (sym (bound-is P o)) (w .valid (P .problem) (rebound-back d (P .problem) (o .listed)))) (λ F b. f P o F (b .ok));
@@ -51,6 +52,13 @@ plan-none n = record { first = λ h. absurd (subst T (sym h) tt); size = λ h. a
 
 pub plan-first : {L : List ℕ} {bound : ℕ} {starts : List ℕ} → FirstAt L bound starts → (P : Problem) → Listed L P → PlanAt P bound starts true
 plan-first f P t = record { first = λ h. f .first P t; size = λ h. f .size; none = λ h. absurd (true≢false h) }
+
+-- ── enough time ──
+
+-- as the code sums it up
+pub enough-of : (l : Loaded) (q : Ask) {all last gap : ℕ} → all ≡ last + sum (λ a. jobAt l a .duration + gap) (q .jobs) → gap ≡ problem l q .gap → last ≡ most (λ a. jobAt l a .release) (q .jobs)
+    → all ≡ enoughTime (problem l q)
+enough-of l q e z m = rw (e, z, m)
 
 -- ── what is searched has the table's plans ──
 

@@ -2,6 +2,7 @@
 ghost use mathlib.Core.Path.{_≡_};
 ghost use Prim.Native.Nat.{_+_, _≤_, min};
 ghost use Rattle.rules.specs.Table.{Problem};
+ghost use Rattle.rules.specs.Premises.{enoughTime};
 ghost use Rattle.rules.specs.Sums.{sum, most};
 ghost use Rattle.tables.specs.Tables.{jobAt, problem};
 ghost use Rattle.lent.specs.Lent.{Listed};
@@ -36,25 +37,25 @@ fn last_release(l: Loaded, n: usize) -> u16
     last
 }
 
-// The time `from` and the durations of the jobs below n.
-fn all_durations(l: Loaded, n: usize, from: u16) -> u32
+// The time `from` and the durations of the jobs below n, each with a gap.
+fn all_durations(l: Loaded, n: usize, from: u16, gap: u16) -> u32
     requires { ⌜ n ≤ 24 ⌝ }
-    ensures { λ r. ⌜ r ≡ from + sum (λ a. jobAt l a .duration + 0) n ⌝ }
+    ensures { λ r. ⌜ r ≡ from + sum (λ a. jobAt l a .duration + gap) n ⌝ }
 {
     let mut all = entries::wide(from);
     for j in 0..n {
         let a = l.jobs[j];
-        all = all + entries::wide(a.duration);
+        all = all + entries::wide(a.duration) + entries::wide(gap);
     }
     all
 }
 
-// The bound, or the latest release and all durations where that is less: more time changes nothing.
+// The bound, or the latest release and all durations with their gaps where that is less: more time changes nothing.
 fn enough(l: Loaded, q: Ask) -> u16
     requires { ⌜ q .jobs ≤ 24 ⌝ }
-    ensures { λ r. ⌜ r ≡ min (q .bound) (most (λ a. jobAt l a .release) (q .jobs) + sum (λ a. jobAt l a .duration + 0) (q .jobs)) ⌝ }
+    ensures { λ r. ⌜ r ≡ min (q .bound) (enoughTime (problem l q)) ⌝ }
 {
-    let all = all_durations(l, q.jobs, last_release(l, q.jobs));
+    let all = all_durations(l, q.jobs, last_release(l, q.jobs), tables::gap(q));
     let bound = q.bound;
     if all < entries::wide(bound) {
         return all as u16;

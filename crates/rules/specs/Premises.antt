@@ -6,6 +6,7 @@ use Rattle.facts.specs.Facts.{has}
 use Rattle.rules.specs.Table.{Problem}
 use Rattle.rules.specs.Plans.{Plan, In, finish}
 use Rattle.rules.specs.Supports.{Consumer}
+use Rattle.rules.specs.Sums.{sum, most}
 use mathlib.Core.Logic.{_⊎_, _≢_}
 
 -- job i adds p
@@ -40,3 +41,7 @@ pub record ByJob (P : Problem) (s : Plan) (p : ℕ) (c : Consumer) (a : ℕ) : T
   pub gives : adds P a p
   pub before : finish P s a + c .lag ≤ c .at
   pub clear : Clear P s p c (P .gap) (s a)
+
+-- the time that is always enough: the latest release, and every duration with its gap
+abbrev pub enoughTime : Problem → ℕ
+enoughTime P = most (P .release) (P .count) + sum (λ a. P .duration a + P .gap) (P .count)

@@ -3,10 +3,10 @@
 use mathlib.Core.Path.{_≡_, refl, sym, ap}
 use mathlib.Core.Bool.{Bool, true, false, not, cond, _&&_}
 use mathlib.Core.List.{List}
-use Prim.Native.Nat.{ℕ, zero, suc, _/_, _^_, _≤_, _<_}
+use Prim.Native.Nat.{ℕ, zero, suc, _+_, _-_, _*_, _/_, _^_, _≤_, _<_}
 use native.Mathlib.Omega.{arith}
 use native.Mathlib.Decide.{decLt}
-use borrow.Author.Tests.{eq-eqb, ne-eqb, lt-leb}
+use borrow.Author.Tests.{eq-eqb, ne-eqb, lt-leb, lt-ltb, le-ltb}
 use lib.Dec.{T, eqb, leb, ltb, leb→le, le→leb, ltb→lt, lt→ltb, T-not, not-T}
 use Rattle.facts.proofs.Bools.{and-r, and-of, same, decides-neb, decides-test}
 use Rattle.facts.proofs.Sets.{high-and}
@@ -15,7 +15,7 @@ use Rattle.rules.specs.Table.{between, strays}
 use Rattle.refusals.proofs.Refused.{Checks, went-on}
 use Rattle.rules.proofs.Checked.{strays-fact}
 use Rattle.tables.specs.declared.Answer.{Answer}
-use Rattle.tables.specs.Tables.{answerOf, changed}
+use Rattle.tables.specs.Tables.{AtomCount, unmarked, answerOf, changed}
 
 -- no fact of a word of 64 bits is at 64 or above
 pub strays-none : (w : ℕ) → w < 2 ^ 64 → false ≡ strays 64 w
@@ -38,6 +38,36 @@ above m d l = same _ _ (λ h. not-T (leb 1 d && leb d m) (λ x. omega (arith, lt
     go : Dec (m < d) → (T (leb 1 d && leb d m) → ⊥) → T (ltb m d)
     go (yes k) n = lt→ltb m d k
     go (no k) n = absurd (n (and-of (leb 1 d) _ (le→leb 1 d l) (le→leb d m (omega arith))))
+
+-- ── the two rules ──
+
+-- a count below 128 is by rule 1
+pub rule-1 : (n : ℕ) → n < 128 → unmarked n ≡ record { atoms = n; gap = 0 }
+unfolding unmarked
+rule-1 n l = simp (lt-ltb n 128 l)
+
+-- 128 added to it, by rule 2
+pub rule-2 : (n : ℕ) → unmarked (128 + n) ≡ record { atoms = n; gap = 1 }
+unfolding unmarked
+rule-2 n = let e : 128 + n - 128 ≡ n = omega arith in simp (le-ltb (128 + n) 128 (omega arith), e)
+
+-- nothing of the byte is lost
+pub unmarked-sum : (n : ℕ) → n ≡ unmarked n .atoms + 128 * unmarked n .gap
+unfolding unmarked
+unmarked-sum n = go (decLt n 128)
+  where
+    go : Dec (n < 128) → n ≡ unmarked n .atoms + 128 * unmarked n .gap
+    go (yes l) = simp (lt-ltb n 128 l) (omega arith)
+    go (no l) = simp (le-ltb n 128 (omega arith)) (omega arith)
+
+-- either rule asks for a gap of at most one
+pub gap-one : (n : ℕ) → unmarked n .gap ≤ 1
+unfolding unmarked
+gap-one n = go (ltb n 128)
+  where
+    go : (b : Bool) → cond {A = AtomCount} b (record { atoms = n; gap = 0 }) (record { atoms = n - 128; gap = 1 }) .gap ≤ 1
+    go true = omega arith
+    go false = omega arith
 
 -- an answer with a number other than 0 is that of a refusal
 pub refusal : (n k v w : ℕ) → 0 < n → cond (eqb n 0) w v ≡ v

@@ -3,7 +3,7 @@
 use mathlib.Core.Path.{_≡_}
 use mathlib.Core.Bool.{Bool, _||_, cond}
 use mathlib.Core.List.{List}
-use Prim.Native.Nat.{ℕ, zero, suc}
+use Prim.Native.Nat.{ℕ, zero, suc, _-_}
 use lib.Dec.{eqb, ltb}
 use lib.ListN.{getD, set, replicate}
 use Rattle.refusals.specs.Refusals.{Verdict, accepted, refuseIf}
@@ -25,7 +25,16 @@ recordAt ts i = getD ts i noJob
 abbrev pub jobAt : Loaded → ℕ → Action
 jobAt l i = recordAt (l .jobs) i
 
--- the problem that the table and the numbers give; there is no gap
+-- an atom count taken apart: the count itself, and the gap that its rule asks for
+pub record AtomCount : Type 0 where
+  pub atoms : ℕ
+  pub gap : ℕ
+
+-- 128 added to the atom count marks rule 2, which asks for a gap of one quarter hour; rule 1 asks for none
+unfoldable pub unmarked : ℕ → AtomCount
+unmarked n = cond (ltb n 128) (record { atoms = n; gap = 0 }) (record { atoms = n - 128; gap = 1 })
+
+-- the problem that the table and the numbers give
 abbrev pub problem : Loaded → Ask → Problem
 problem l q = record {
   count = q .jobs;
@@ -34,8 +43,8 @@ problem l q = record {
   deletions = λ i. jobAt l i .deletions;
   duration = λ i. jobAt l i .duration;
   release = λ i. jobAt l i .release;
-  gap = 0;
-  atoms = q .atoms;
+  gap = unmarked (q .atoms) .gap;
+  atoms = unmarked (q .atoms) .atoms;
   opening = q .opening;
   goals = q .goals;
 }

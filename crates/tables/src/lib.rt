@@ -6,7 +6,7 @@ ghost use lib.Dec.{ltb};
 ghost use Rattle.facts.specs.Least.{least};
 ghost use Rattle.refusals.specs.Refusals.{accepted, refused};
 ghost use Rattle.rules.specs.Table.{between, strays, jobChecks, boundCheck};
-ghost use Rattle.tables.specs.Tables.{problem, answerOf, noJobs, jobAt, callChecks};
+ghost use Rattle.tables.specs.Tables.{unmarked, problem, answerOf, noJobs, jobAt, callChecks};
 ghost use Rattle.tables.specs.Steps.{withJob, jobFails, strayRecord, Judges, Cleared};
 
 // A job as the caller keeps it.
@@ -65,7 +65,7 @@ pub fn job_at(l: Loaded, i: usize) -> Action
     l.jobs[i]
 }
 
-// The numbers that a call is made with; set and pairs are settling's.
+// The numbers that a call is made with; the atom count has the mark of its rule, set and pairs are settling's.
 #[repr(C)]
 pub struct Ask {
     pub jobs: usize,
@@ -75,6 +75,26 @@ pub struct Ask {
     pub bound: u16,
     pub set: u64,
     pub pairs: usize,
+}
+
+// The atom count without the mark of rule 2.
+fn atoms(q: Ask) -> u8
+    ensures { λ r. ⌜ r ≡ unmarked (q .atoms) .atoms ⌝ }
+{
+    if q.atoms < 128 {
+        return q.atoms;
+    }
+    q.atoms - 128
+}
+
+// The gap that the rule asks for between jobs that bind.
+pub fn gap(q: Ask) -> u16
+    ensures { λ r. ⌜ r ≡ unmarked (q .atoms) .gap ⌝ }
+{
+    if q.atoms < 128 {
+        return 0;
+    }
+    1
 }
 
 // What every call says: number and place, both 0 on success, and the number returned.
@@ -117,6 +137,13 @@ fn outside(n: u16, most: u16) -> bool
     most < n
 }
 
+// The atom count is not 1 to 64.
+fn atoms_wrong(q: Ask) -> bool
+    ensures { λ r. ⌜ r ≡ not (between 1 64 (unmarked (q .atoms) .atoms)) ⌝ }
+{
+    outside(atoms(q) as u16, 64)
+}
+
 // The record has a fact at or above the atom count.
 fn job_strays(a: Action, atoms: usize) -> bool
     requires { ⌜ atoms ≤ 64 ⌝ }
@@ -128,16 +155,16 @@ fn job_strays(a: Action, atoms: usize) -> bool
 
 // The opening facts or the goals have a fact at or above the atom count.
 fn edges_stray(q: Ask) -> bool
-    requires { ⌜ q .atoms ≤ 64 ⌝ }
-    ensures { λ r. ⌜ r ≡ (strays (q .atoms) (q .opening) || strays (q .atoms) (q .goals)) ⌝ }
+    requires { ⌜ unmarked (q .atoms) .atoms ≤ 64 ⌝ }
+    ensures { λ r. ⌜ r ≡ (strays (unmarked (q .atoms) .atoms) (q .opening) || strays (unmarked (q .atoms) .atoms) (q .goals)) ⌝ }
 {
-    let atoms = q.atoms as usize;
+    let atoms = atoms(q) as usize;
     word_strays(q.opening, atoms) || word_strays(q.goals, atoms)
 }
 
 // Job i fails check 6, 20, 7 or 8.
 fn job_fails(l: Loaded, q: Ask, i: usize, check: u8) -> bool
-    requires { ⌜ (i < 24) × (q .atoms ≤ 64) ⌝ }
+    requires { ⌜ (i < 24) × (unmarked (q .atoms) .atoms ≤ 64) ⌝ }
     ensures { λ r. ⌜ r ≡ jobFails check (problem l q) i ⌝ }
 {
     let a = l.jobs[i];
@@ -148,14 +175,14 @@ fn job_fails(l: Loaded, q: Ask, i: usize, check: u8) -> bool
         return 2880 < a.release;
     }
     if check == 7 {
-        return job_strays(a, q.atoms as usize);
+        return job_strays(a, atoms(q) as usize);
     }
     facts::meets(a.additions, a.deletions)
 }
 
 // The lowest job that fails it, or the job count.
 fn first_job(l: Loaded, q: Ask, check: u8) -> usize
-    requires { ⌜ (q .jobs ≤ 24) × (q .atoms ≤ 64) ⌝ }
+    requires { ⌜ (q .jobs ≤ 24) × (unmarked (q .atoms) .atoms ≤ 64) ⌝ }
     ensures { λ r. ⌜ r ≡ least (jobFails check (problem l q)) (q .jobs) ⌝ }
 {
     let n = q.jobs;
@@ -181,7 +208,7 @@ pub fn refuse(number: u8, place: u16, value: u32) -> Answer
 
 // Checks 6, 20 and 7 to 9, in this order.
 fn jobs_fault(l: Loaded, q: Ask, bound: u16) -> Answer
-    requires { ⌜ (q .jobs ≤ 24) × (q .atoms ≤ 64) ⌝ }
+    requires { ⌜ (q .jobs ≤ 24) × (unmarked (q .atoms) .atoms ≤ 64) ⌝ }
     ensures { λ r. ⌜ r ≡ answerOf (jobChecks (problem l q) (boundCheck bound accepted)) 0 0 ⌝ }
 {
     let n = q.jobs;
@@ -224,7 +251,7 @@ pub fn call_fault(l: Loaded, q: Ask, short: bool, bound: u16) -> Answer
     if too_short(short, l.lent, q.jobs) {
         return refuse(3, 0, 0);
     }
-    if outside(q.atoms as u16, 64) {
+    if atoms_wrong(q) {
         return refuse(4, 0, 0);
     }
     if 24 < q.jobs {

@@ -45,9 +45,9 @@ module _ (s : List ℕ) (b x : ℕ) (room : b < length s) where
       go (no n) = omega (arith, raised-else j n)
 
 -- the pair as it was read from the bytes
-pub pushes-by : (l : Loaded) (q : Ask) (s : List ℕ) (r : Outcome) {a b a′ b′ : ℕ} → a ≡ a′ → b ≡ b′ → Pushes s b (finish (problem l q) (entry s) a) (problem l q .duration b) (q .bound) r
-    → Pushes s b′ (finish (problem l q) (entry s) a′) (problem l q .duration b′) (q .bound) r
-pushes-by l q s r e f p = rw (e, f) at p
+pub pushes-by : (l : Loaded) (q : Ask) (s : List ℕ) (r : Outcome) {a b a′ b′ : ℕ} {g : ℕ} → a ≡ a′ → b ≡ b′ → g ≡ problem l q .gap → Pushes s b (finish (problem l q) (entry s) a + g) (problem l q .duration b) (q .bound) r
+    → Pushes s b′ (finish (problem l q) (entry s) a′ + problem l q .gap) (problem l q .duration b′) (q .bound) r
+pushes-by l q s r e f z p = rw (e, f, z) at p
 
 module _ (l : Loaded) (q : Ask) (bytes : List ℕ) where
   -- ── starts pushed on ──
@@ -75,7 +75,7 @@ module _ (l : Loaded) (q : Ask) (bytes : List ℕ) where
     second-job k h = ready .named (pairSecond bytes k) (ready .paired k h .1)
 
     -- what is asked of pair k
-    kept : (y : Plan) → Obeys (problem l q) (wanted l q bytes) y → (k : ℕ) → k < q .pairs → finish (problem l q) y (pairFirst bytes k) ≤ y (pairSecond bytes k)
+    kept : (y : Plan) → Obeys (problem l q) (wanted l q bytes) y → (k : ℕ) → k < q .pairs → finish (problem l q) y (pairFirst bytes k) + problem l q .gap ≤ y (pairSecond bytes k)
     kept y w k h =
         omega (
           arith,
@@ -86,7 +86,7 @@ module _ (l : Loaded) (q : Ask) (bytes : List ℕ) where
     -- ── one pair more ──
 
     module _ (t : Plan) (s : List ℕ) (k : ℕ) (h : k < q .pairs) (f : Pushed l q bytes t (entry s)) (r : Outcome)
-        (p : Pushes s (pairSecond bytes k) (finish (problem l q) (entry s) (pairFirst bytes k)) (problem l q .duration (pairSecond bytes k)) (q .bound) r) where
+        (p : Pushes s (pairSecond bytes k) (finish (problem l q) (entry s) (pairFirst bytes k) + problem l q .gap) (problem l q .duration (pairSecond bytes k)) (q .bound) r) where
       abbrev a : ℕ
       a = pairFirst bytes k
 
@@ -94,7 +94,7 @@ module _ (l : Loaded) (q : Ask) (bytes : List ℕ) where
       b = pairSecond bytes k
 
       abbrev x : ℕ
-      x = finish (problem l q) (entry s) a
+      x = finish (problem l q) (entry s) a + problem l q .gap
 
       x-under : (y : Plan) → Obeys (problem l q) (wanted l q bytes) y → Under q t y → x ≤ y b
       x-under y w u = omega (arith, kept y w k h, f .under y w u a (first-job k h) (ready .paired k h .0))
@@ -199,7 +199,7 @@ module _ (l : Loaded) (q : Ask) (bytes : List ℕ) where
               ends j h i (yes m) = p .ends j h m
               ends j h i (no m) = omega (arith, d j h i)
 
-              order : (a b : ℕ) → (k : ℕ) × (k < q .pairs) × T (eqb (pairFirst bytes k) a && eqb (pairSecond bytes k) b) → finish (problem l q) (entry (r .starts)) a + 0 ≤ entry (r .starts) b
+              order : (a b : ℕ) → (k : ℕ) × (k < q .pairs) × T (eqb (pairFirst bytes k) a && eqb (pairSecond bytes k) b) → finish (problem l q) (entry (r .starts)) a + problem l q .gap ≤ entry (r .starts) b
               order a b (k, h, o) =
                   rw (← eqb→eq (pairFirst bytes k) a (and-l (eqb (pairFirst bytes k) a) _ o), ← eqb→eq (pairSecond bytes k) b (and-r (eqb (pairFirst bytes k) a) _ o))
                   (omega (arith, g .behind e k h))

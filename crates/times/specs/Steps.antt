@@ -57,9 +57,9 @@ pub record Pushed (l : Loaded) (q : Ask) (bytes : List ℕ) (t s : Plan) : Type 
   pub out : (j : ℕ) → (T (has (q .set) j) → ⊥) → s j ≡ t j
   pub under : (y : Plan) → Obeys (problem l q) (wanted l q bytes) y → Under q t y → Under q s y
 
--- in s the second job of each pair below k starts when the first finishes in t, or later
+-- in s the second job of each pair below k starts the gap after the first finishes in t, or later
 abbrev pub Behind : Loaded → Ask → (bytes : List ℕ) → (t s : Plan) → ℕ → Type 0
-Behind l q bytes t s k = (i : ℕ) → i < k → finish (problem l q) t (pairFirst bytes i) ≤ s (pairSecond bytes i)
+Behind l q bytes t s k = (i : ℕ) → i < k → finish (problem l q) t (pairFirst bytes i) + problem l q .gap ≤ s (pairSecond bytes i)
 
 -- none of the starts that keep what is asked has t under it
 abbrev pub NoneUnder : Loaded → Ask → (bytes : List ℕ) → Plan → Type 0

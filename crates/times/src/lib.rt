@@ -24,12 +24,12 @@ fn job(x: u8) -> usize
     x as usize
 }
 
-// Job b starts no earlier than job a finishes; refused where b would then end after the bound.
-fn push(t: [u16; 24], a: usize, b: usize, first: u16, second: u16, bound: u16) -> Outcome
+// Job b starts no earlier than the gap after job a finishes; refused where b would then end after the bound.
+fn push(t: [u16; 24], a: usize, b: usize, first: u16, gap: u16, second: u16, bound: u16) -> Outcome
     requires { ⌜ (a < 24) × (b < 24) ⌝ }
-    ensures { λ r. ⌜ Pushes t b (entry t a + first) second bound r ⌝ }
+    ensures { λ r. ⌜ Pushes t b (entry t a + first + gap) second bound r ⌝ }
 {
-    let x = entries::wide(t[a]) + entries::wide(first);
+    let x = entries::wide(t[a]) + entries::wide(first) + entries::wide(gap);
     if entries::wide(bound) < x + entries::wide(second) {
         return Outcome {
             ok: false,
@@ -50,6 +50,7 @@ fn round(l: Loaded, q: Ask, pairs: &[u8], t: [u16; 24]) -> Outcome
     ensures { λ r. ⌜ Round l q (now (pairs .entry)) (entry t) r ⌝ }
 {
     let n = q.pairs;
+    let gap = tables::gap(q);
     let mut s = t;
     for k in 0..n {
         let at = 2 * k;
@@ -57,7 +58,7 @@ fn round(l: Loaded, q: Ask, pairs: &[u8], t: [u16; 24]) -> Outcome
         let b = job(pairs[at + 1]);
         let first = l.jobs[a];
         let second = l.jobs[b];
-        let r = push(s, a, b, first.duration, second.duration, q.bound);
+        let r = push(s, a, b, first.duration, gap, second.duration, q.bound);
         let ok = r.ok;
         if !ok {
             return r;

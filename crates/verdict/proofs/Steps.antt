@@ -1,10 +1,9 @@
 -- The facts from finish to finish, and the tests of two jobs as the code makes them.
 -- Assumes nothing.
-use mathlib.Core.Path.{_≡_, refl, sym, ap, ap₂, _∙_}
+use mathlib.Core.Path.{_≡_, refl, sym, ap, ap₂, _∙_, subst}
 use mathlib.Core.Logic.{_⊎_, inl, inr}
 use mathlib.Core.Bool.{Bool, true, false, not, _&&_}
 use Prim.Native.Nat.{ℕ, zero, suc, _+_, _-_, _≤_, _<_}
-use native.Mathlib.Nat.{add-zero, sub-zero}
 use borrow.Author.Tests.{ne-eqb}
 use native.Mathlib.Numerals.{add-one}
 use native.Mathlib.Omega.{arith}
@@ -19,23 +18,13 @@ use Rattle.facts.proofs.Least.{least-same}
 use Rattle.rules.specs.Table.{Problem}
 use Rattle.rules.specs.Plans.{Plan, starts, In, inPlan, finish, interfere, ends, afterIf, finishes, holds}
 use Rattle.rules.specs.Verdicts.{overlap, unready}
+use Rattle.rules.proofs.Time.{still}
 use Rattle.tables.specs.declared.Loaded.{Loaded}
 use Rattle.tables.specs.declared.Ask.{Ask}
 use Rattle.tables.specs.Tables.{problem, jobAt}
 use Rattle.verdict.specs.Steps.{startIn, FactsAt, Next}
 
 -- ── the facts from finish to finish ──
-
-if-not : (f a d b : Bool) → (T f → ⊥) → afterIf f a d b ≡ b
-unfolding afterIf
-if-not true a d b q = absurd (q tt)
-if-not false a d b q = refl
-
--- where no job below k finishes at t, a fact stays as it is
-still : (P : Problem) (s : Plan) (p t k : ℕ) (b : Bool) → ((i : ℕ) → i < k → T (ends P s i t) → ⊥) → finishes P s p t k b ≡ b
-unfolding finishes
-still P s p t zero b q = refl
-still P s p t (suc k) b q = if-not (ends P s k t) _ _ _ (q k (omega arith)) ∙ still P s p t k b (λ i l. q i (omega arith))
 
 -- no job of the plan finishes after `from`, up to `till`
 abbrev pub Idle : Problem → Plan → ℕ → ℕ → Type 0
@@ -86,21 +75,24 @@ regroup true false true y z = refl
 regroup true false false y z = refl
 regroup false b x y z = refl
 
--- the overlap of two jobs of a table: each ends after the other's start, and they interfere
-pub overlap-of : (l : Loaded) (q : Ask) (s : List ℕ) (i j : ℕ)
-    → (((startIn (getD s i 0) && ltb (getD s j 0) (getD s i 0 + jobAt l i .duration)) && (startIn (getD s j 0) && ltb (getD s i 0) (getD s j 0 + jobAt l j .duration))) && interfere (problem l q) i j)
+-- the overlap of two jobs of a table: each ends, with the gap behind it, after the other's start, and they interfere
+pub overlap-of : (l : Loaded) (q : Ask) (s : List ℕ) (i j : ℕ) {g : ℕ} → g ≡ problem l q .gap
+    → (((startIn (getD s i 0) && ltb (getD s j 0) (getD s i 0 + jobAt l i .duration + g)) && (startIn (getD s j 0) && ltb (getD s i 0) (getD s j 0 + jobAt l j .duration + g))) && interfere (problem l q) i j)
     ≡ overlap (problem l q) (starts s) i j
 unfolding overlap inPlan
-overlap-of l q s i j =
-    simp add-zero (regroup (startIn (getD s i 0)) (startIn (getD s j 0)) (ltb (getD s j 0) (getD s i 0 + jobAt l i .duration)) (ltb (getD s i 0) (getD s j 0 + jobAt l j .duration)) (interfere (problem l q) i j))
+overlap-of l q s i j {g} e =
+    regroup (startIn (getD s i 0)) (startIn (getD s j 0)) (ltb (getD s j 0) (getD s i 0 + jobAt l i .duration + g)) (ltb (getD s i 0) (getD s j 0 + jobAt l j .duration + g)) (interfere (problem l q) i j)
+    ∙ ap (λ (x : ℕ). startIn (getD s i 0) && (startIn (getD s j 0) && (ltb (getD s j 0) (getD s i 0 + jobAt l i .duration + x) && (ltb (getD s i 0) (getD s j 0 + jobAt l j .duration + x) && interfere (problem l q) i j)))) e
 
 -- what is wanted and not in the word of facts at a time is what is wanted and does not hold then
 pub lacking-same : (f : ℕ → Bool) (want have : ℕ) → Word f have → least (λ p. has want p && not (has have p)) 64 ≡ least (λ p. has want p && not (f p)) 64
 lacking-same f want have h = least-same _ _ 64 (λ p l. ap (λ (b : Bool). has want p && not b) (h p))
 
--- a job in the plan is not ready where a condition is not among the facts at its start
-pub unready-of : (l : Loaded) (q : Ask) (s : List ℕ) (i r w : ℕ) → (getD s i 0 ≡ 65535 → ⊥) → FactsAt (problem l q) (starts s) (getD s i 0) w
+-- a job in the plan is not ready where a condition is not among the facts the gap before its start
+pub unready-of : (l : Loaded) (q : Ask) (s : List ℕ) (i r w : ℕ) {t : ℕ} → (getD s i 0 ≡ 65535 → ⊥) → t ≡ getD s i 0 - problem l q .gap → FactsAt (problem l q) (starts s) t w
     → r ≡ least (λ p. has (jobAt l i .conditions) p && not (has w p)) 64 → ltb r 64 ≡ unready (problem l q) (starts s) i
 unfolding unready inPlan any
-unready-of l q s i r w n f e =
-    simp (ne-eqb _ _ n, sub-zero) (ap (λ (x : ℕ). ltb x 64) (e ∙ lacking-same (λ p. holds (problem l q) (starts s) p (getD s i 0)) (jobAt l i .conditions) w f))
+unready-of l q s i r w n m f e =
+    simp (ne-eqb _ _ n)
+    (ap (λ (x : ℕ). ltb x 64)
+    (e ∙ lacking-same (λ p. holds (problem l q) (starts s) p (getD s i 0 - problem l q .gap)) (jobAt l i .conditions) w (subst (λ (u : ℕ). FactsAt (problem l q) (starts s) u w) m f)))

@@ -4,7 +4,7 @@ use tables::Ask;
 use tables::Loaded;
 ghost use mathlib.Core.Path.{_≡_};
 ghost use mathlib.Core.Bool.{not, _&&_};
-ghost use Prim.Native.Nat.{_+_, _<_};
+ghost use Prim.Native.Nat.{_+_, _-_, _<_};
 ghost use lib.Dec.{eqb, ltb};
 ghost use lib.ListN.{length};
 ghost use Rattle.facts.specs.Facts.{has};
@@ -13,7 +13,6 @@ ghost use Rattle.facts.specs.Least.{least};
 ghost use Rattle.refusals.specs.Refusals.{accepted};
 ghost use Rattle.rules.specs.Plans.{starts, afterIf, finishes};
 ghost use Rattle.rules.specs.Verdicts.{overlap, clashes, unready, missing, planChecks};
-ghost use Rattle.tables.specs.declared.Ask.{Ask};
 ghost use Rattle.tables.specs.Tables.{problem, answerOf};
 ghost use Rattle.tables.specs.Steps.{Judges};
 ghost use Rattle.verdict.specs.Offered.{offered, ChecksPlan};
@@ -97,11 +96,11 @@ fn facts_at(l: Loaded, q: Ask, s: &[u16], t: u16) -> u64
     state
 }
 
-// The job is in and ends after t.
-fn ends_after(start: u16, duration: u16, t: u16) -> bool
-    ensures { λ r. ⌜ r ≡ (startIn start && ltb t (start + duration)) ⌝ }
+// The job is in and ends, with the gap behind it, after t.
+fn ends_after(start: u16, duration: u16, gap: u16, t: u16) -> bool
+    ensures { λ r. ⌜ r ≡ (startIn start && ltb t (start + duration + gap)) ⌝ }
 {
-    start != 65535 && (t as u32) < start as u32 + duration as u32
+    start != 65535 && (t as u32) < start as u32 + duration as u32 + gap as u32
 }
 
 // The job is in and starts before its release.
@@ -111,21 +110,21 @@ fn starts_early(start: u16, release: u16) -> bool
     start != 65535 && start < release
 }
 
-// Both jobs are in, and each starts before the other finishes: touching is not that.
-fn together(a: u16, a_long: u16, b: u16, b_long: u16) -> bool
-    ensures { λ r. ⌜ r ≡ ((startIn a && ltb b (a + «a_long»)) && (startIn b && ltb a (b + «b_long»))) ⌝ }
+// Both jobs are in, and each starts before the other finishes with the gap behind it: with no gap touching is not that.
+fn together(a: u16, a_long: u16, b: u16, b_long: u16, gap: u16) -> bool
+    ensures { λ r. ⌜ r ≡ ((startIn a && ltb b (a + «a_long» + gap)) && (startIn b && ltb a (b + «b_long» + gap))) ⌝ }
 {
-    ends_after(a, a_long, b) && ends_after(b, b_long, a)
+    ends_after(a, a_long, gap, b) && ends_after(b, b_long, gap, a)
 }
 
 // Jobs i and j overlap and interfere.
-fn overlap(l: Loaded, s: &[u16], i: usize, j: usize) -> bool
+fn overlap(l: Loaded, q: Ask, s: &[u16], i: usize, j: usize) -> bool
     requires { ⌜ (i < 24) × (j < 24) × (i < length (now s)) × (j < length (now s)) ⌝ }
-    ensures { λ r. ⌜ ((q : Ask) → r ≡ overlap (problem l q) (starts (now (s .entry))) i j) ⌝ }
+    ensures { λ r. ⌜ r ≡ overlap (problem l q) (starts (now (s .entry))) i j ⌝ }
 {
     let a = l.jobs[i];
     let b = l.jobs[j];
-    if together(s[i], a.duration, s[j], b.duration) {
+    if together(s[i], a.duration, s[j], b.duration, tables::gap(q)) {
         return interference::interferes(l, i, j);
     }
     false
@@ -138,7 +137,7 @@ fn clashes(l: Loaded, q: Ask, s: &[u16], i: usize) -> bool
 {
     let n = q.jobs;
     for j in i + 1..n {
-        if overlap(l, s, i, j) {
+        if overlap(l, q, s, i, j) {
             return true;
         }
     }
@@ -152,7 +151,17 @@ fn first_lacking(have: u64, want: u64) -> u32
     facts::lowest(want & !have)
 }
 
-// Job i is in and misses a condition at its start.
+// The moment the gap before t; 0 where there is none.
+fn earlier(t: u16, gap: u16) -> u16
+    ensures { λ r. ⌜ r ≡ t - gap ⌝ }
+{
+    if t < gap {
+        return 0;
+    }
+    t - gap
+}
+
+// Job i is in and misses a condition at its start: what finishes less than the gap before is not seen.
 fn unready(l: Loaded, q: Ask, s: &[u16], i: usize) -> bool
     requires { ⌜ Given q (now s) × (i < q .jobs) ⌝ }
     ensures { λ r. ⌜ r ≡ unready (problem l q) (starts (now (s .entry))) i ⌝ }
@@ -161,7 +170,7 @@ fn unready(l: Loaded, q: Ask, s: &[u16], i: usize) -> bool
         return false;
     }
     let a = l.jobs[i];
-    let state = facts_at(l, q, s, s[i]);
+    let state = facts_at(l, q, s, earlier(s[i], tables::gap(q)));
     first_lacking(state, a.conditions) < 64
 }
 
@@ -172,7 +181,7 @@ fn step_fails(l: Loaded, q: Ask, s: &[u16], i: usize, check: u8) -> bool
 {
     if check == 11 {
         let a = l.jobs[i];
-        return ends_after(s[i], a.duration, q.bound);
+        return ends_after(s[i], a.duration, 0, q.bound);
     }
     if check == 21 {
         let a = l.jobs[i];

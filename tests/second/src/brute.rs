@@ -2,7 +2,7 @@
 //! of jobs with each job as early as the ones before it and its release allow. To estimates and settled starts:
 //! every start vector.
 
-use crate::rules::{check_plan, facts_at, finish, interfere, Problem, OUT};
+use crate::rules::{check_plan, facts_seen, finish, interfere, over, Problem, OUT};
 
 /// The next value of a start in the stated order: out, 0, 1 and so on, while the job ends by the bound.
 fn next_start(problem: &Problem, job: usize, start: u16) -> Option<u16> {
@@ -68,10 +68,7 @@ pub fn settled(problem: &Problem, set: u64, pairs: &[u8]) -> Option<Vec<u16>> {
     let keeps = |starts: &[u16]| {
         let in_set = |job: usize| set >> job & 1 == 1;
         let placed = |job: usize| (starts[job] != OUT) == in_set(job) && starts[job] >= jobs[job].release;
-        let kept = |pair: &[u8]| {
-            let (first, second) = (pair[0] as usize, pair[1] as usize);
-            finish(&jobs[first], starts[first]) <= starts[second] as u32
-        };
+        let kept = |pair: &[u8]| over(problem, starts, pair[0] as usize, pair[1] as usize);
         (0..jobs.len()).all(placed) && pairs.chunks_exact(2).all(kept)
     };
     let least = least_of_each(problem, keeps);
@@ -83,19 +80,19 @@ pub fn least_bound(problem: &Problem) -> Option<(u16, Vec<u16>)> {
     (0..=problem.bound).find_map(|bound| Some((bound, first_plan(&Problem { bound, ..*problem })?)))
 }
 
-/// The job's earliest start from its release on at which its conditions hold, with all jobs placed before that
-/// interfere with it done.
+/// The job's earliest start from its release on that sees its conditions, with all jobs placed before that interfere
+/// with it done, and the gap behind them.
 fn earliest_place(problem: &Problem, starts: &[u16], job: usize) -> Option<u16> {
     let jobs = problem.jobs;
     let last = problem.bound.checked_sub(jobs[job].duration)?;
     let placed = (0..jobs.len()).filter(|&other| starts[other] != OUT);
     let free = placed
         .filter(|&other| interfere(&jobs[job], &jobs[other]))
-        .map(|other| finish(&jobs[other], starts[other]) as u16)
+        .map(|other| finish(&jobs[other], starts[other]) as u16 + problem.gap)
         .max()
         .unwrap_or(0)
         .max(jobs[job].release);
-    (free..=last).find(|&time| jobs[job].conditions & !facts_at(problem, starts, time as u32) == 0)
+    (free..=last).find(|&time| jobs[job].conditions & !facts_seen(problem, starts, time) == 0)
 }
 
 /// Every order of jobs that goes on from here; in the stated order of plans, out comes first.

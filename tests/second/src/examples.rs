@@ -30,6 +30,11 @@ impl Example {
         other.jobs.iter_mut().zip(releases).for_each(|(job, &release)| job.release = release);
         other
     }
+
+    /// The same under rule 2.
+    pub fn under_rule_2(&self) -> Example {
+        Example { atoms: self.atoms + 128, ..self.clone() }
+    }
 }
 
 pub fn word(facts: &[u64]) -> u64 {
@@ -180,6 +185,18 @@ impl Dice {
         let times = [0, self.below(last + 1) as u16, self.below(last + 1) as u16];
         let releases: Vec<u16> = example.jobs.iter().map(|_| times[self.below(3) as usize]).collect();
         example.released(&releases)
+    }
+
+    /// The table as it is, with such releases, under rule 2, and both, each with its words.
+    pub fn in_every_way(&mut self, example: &Example, last: u64) -> [(&'static str, Example); 4] {
+        let released = self.with_releases(example, last);
+        let both = released.under_rule_2();
+        [
+            ("", example.clone()),
+            (", released", released),
+            (", rule 2", example.under_rule_2()),
+            (", released, rule 2", both),
+        ]
     }
 
     /// A random table whose goals are facts that its jobs, one after the other, lead to; at least `new` of them

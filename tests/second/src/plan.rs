@@ -5,6 +5,8 @@
 //! Both still hold when jobs are moved to earlier starts in the same order, none before its release. So it is
 //! enough to look at plans in which every job starts at 0, at a finish or at its release, and of two ways to the
 //! same standing the earlier one is as good: it can wait.
+//!
+//! The gap of rule 2 is no matter of the search: it is put into the durations and the bound first.
 
 use crate::rules::{
     check_bounded_table, check_lent, fact_cost, interfere, job_estimates, members, refuse, Given, Job,
@@ -420,6 +422,20 @@ fn some_plan(problem: &Problem, wishes: &Wishes) -> Option<Starts> {
     Search::new(problem, wishes).search(&moment)
 }
 
+// The gap as a part of the jobs.
+
+/// The jobs, each longer by the gap.
+fn longer_jobs(problem: &Problem) -> Vec<Job> {
+    let longer = |job: &Job| Job { duration: job.duration + problem.gap, ..*job };
+    problem.jobs.iter().map(longer).collect()
+}
+
+/// The problem with the longer jobs, the bound later by the gap, and no gap: the same plans are valid. What waited for a
+/// finish and the gap waits for the later finish, and a job that ended by the bound ends by the later one.
+fn without_gap<'a>(problem: &Problem, longer: &'a [Job]) -> Problem<'a> {
+    Problem { jobs: longer, bound: problem.bound + problem.gap, gap: 0, ..*problem }
+}
+
 // The first plan in the stated order.
 
 /// The least number from `low` below `high` for which `ask` finds a plan, with that plan.
@@ -492,7 +508,7 @@ fn smallest_bound(problem: &Problem) -> Option<u16> {
 pub fn plan_within(given: &Given, table: &mut [u16]) -> Result<(), Refusal> {
     check_lent(table.len(), given.count)?;
     let problem = check_bounded_table(given)?;
-    match first_plan(&problem) {
+    match first_plan(&without_gap(&problem, &longer_jobs(&problem))) {
         Some(plan) => table[..problem.jobs.len()].copy_from_slice(&plan[..problem.jobs.len()]),
         None => return refuse(10, 0),
     }
@@ -503,8 +519,10 @@ pub fn plan_within(given: &Given, table: &mut [u16]) -> Result<(), Refusal> {
 pub fn least_bound(given: &Given, table: &mut [u16]) -> Result<u16, Refusal> {
     check_lent(table.len(), given.count)?;
     let problem = check_bounded_table(given)?;
-    match smallest_bound(&problem) {
+    match smallest_bound(&without_gap(&problem, &longer_jobs(&problem))) {
         Some(bound) => {
+            // At 0 no job is in; any other least bound is the finish of a longer job.
+            let bound = bound.saturating_sub(problem.gap);
             plan_within(&Given { bound: bound as u64, ..*given }, table)?;
             Ok(bound)
         }

@@ -11,6 +11,9 @@ pub const NO_SUPPORT: u8 = 255;
 pub const MOST_JOBS: usize = 24;
 pub const FACTS: usize = 64;
 
+/// Rule 2 is marked by this much added to the atom count.
+const RULE_2: u64 = 128;
+
 const LONGEST: u16 = 960;
 const LAST_RELEASE: u16 = 2_880;
 const LAST_BOUND: u64 = 2_880;
@@ -43,6 +46,7 @@ pub fn refuse<T>(number: u64, place: u64) -> Result<T, Refusal> {
 pub struct Given<'a> {
     pub records: &'a [Job],
     pub count: u64,
+    /// With the mark of the rule.
     pub atoms: u64,
     pub opening: u64,
     pub goals: u64,
@@ -56,6 +60,8 @@ pub struct Problem<'a> {
     pub opening: u64,
     pub goals: u64,
     pub bound: u16,
+    /// Quarter hours between jobs that bind: none under rule 1, one under rule 2.
+    pub gap: u16,
 }
 
 /// The numbers of the bits that are set, lowest first.
@@ -77,6 +83,14 @@ pub fn interfere(a: &Job, b: &Job) -> bool {
 
 // Table checks.
 
+/// The atom count and the gap of the rule that it is marked with.
+fn unmarked(atoms: u64) -> (u64, u16) {
+    match atoms < RULE_2 {
+        true => (atoms, 0),
+        false => (atoms - RULE_2, 1),
+    }
+}
+
 /// Refusal 3 if fewer places are lent than needed.
 pub fn check_lent(lent: usize, needed: u64) -> Result<(), Refusal> {
     if (lent as u64) < needed {
@@ -88,7 +102,8 @@ pub fn check_lent(lent: usize, needed: u64) -> Result<(), Refusal> {
 /// Refusals 3 (records), 4 to 8, and 20 between 6 and 7.
 pub fn check_table<'a>(given: &Given<'a>) -> Result<Problem<'a>, Refusal> {
     check_lent(given.records.len(), given.count)?;
-    if given.atoms < 1 || given.atoms > FACTS as u64 {
+    let (atoms, gap) = unmarked(given.atoms);
+    if atoms < 1 || atoms > FACTS as u64 {
         return refuse(4, 0);
     }
     if given.count > MOST_JOBS as u64 {
@@ -97,9 +112,9 @@ pub fn check_table<'a>(given: &Given<'a>) -> Result<Problem<'a>, Refusal> {
     let jobs = &given.records[..given.count as usize];
     check_durations(jobs)?;
     check_releases(jobs)?;
-    check_facts(given, jobs)?;
+    check_facts(given, atoms, jobs)?;
     check_effects(jobs)?;
-    Ok(Problem { jobs, opening: given.opening, goals: given.goals, bound: 0 })
+    Ok(Problem { jobs, opening: given.opening, goals: given.goals, bound: 0, gap })
 }
 
 /// The same and refusal 9.
@@ -126,8 +141,8 @@ fn check_releases(jobs: &[Job]) -> Result<(), Refusal> {
 }
 
 /// Jobs come first, opening facts and goals stand behind the last possible job.
-fn check_facts(given: &Given, jobs: &[Job]) -> Result<(), Refusal> {
-    let strange = |word: u64| members(word).any(|fact| fact as u64 >= given.atoms);
+fn check_facts(given: &Given, atoms: u64, jobs: &[Job]) -> Result<(), Refusal> {
+    let strange = |word: u64| members(word).any(|fact| fact as u64 >= atoms);
     for (number, job) in jobs.iter().enumerate() {
         if strange(job.conditions | job.additions | job.deletions) {
             return refuse(7, number as u64);
@@ -161,9 +176,9 @@ fn jobs_in<'a>(starts: &'a [u16]) -> impl Iterator<Item = usize> + 'a {
     (0..starts.len()).filter(move |&job| is_in(starts[job]))
 }
 
-fn overlap(jobs: &[Job], starts: &[u16], a: usize, b: usize) -> bool {
-    let before = |x: usize, y: usize| finish(&jobs[x], starts[x]) <= starts[y] as u32;
-    !before(a, b) && !before(b, a)
+/// Job a is over before job b starts, with the gap between.
+pub fn over(problem: &Problem, starts: &[u16], a: usize, b: usize) -> bool {
+    finish(&problem.jobs[a], starts[a]) + problem.gap as u32 <= starts[b] as u32
 }
 
 /// The opening facts after all finishes up to `time`, in order of time.
@@ -176,6 +191,11 @@ pub fn facts_at(problem: &Problem, starts: &[u16], time: u32) -> u64 {
     finishes.iter().fold(problem.opening, |facts, &(_, job)| {
         facts & !problem.jobs[job].deletions | problem.jobs[job].additions
     })
+}
+
+/// The facts that a start at this time sees: those at the gap before it, and no earlier than 0.
+pub fn facts_seen(problem: &Problem, starts: &[u16], start: u16) -> u64 {
+    facts_at(problem, starts, start.saturating_sub(problem.gap) as u32)
 }
 
 /// Refusals 11 to 14 of a plan with one start a job, and 21 between 11 and 12.
@@ -206,7 +226,8 @@ fn check_overlaps(problem: &Problem, starts: &[u16]) -> Result<(), Refusal> {
     let jobs = problem.jobs;
     for a in jobs_in(starts) {
         for b in jobs_in(starts).filter(|&b| b > a) {
-            if interfere(&jobs[a], &jobs[b]) && overlap(jobs, starts, a, b) {
+            let apart = over(problem, starts, a, b) || over(problem, starts, b, a);
+            if interfere(&jobs[a], &jobs[b]) && !apart {
                 return refuse(12, a as u64);
             }
         }
@@ -216,7 +237,7 @@ fn check_overlaps(problem: &Problem, starts: &[u16]) -> Result<(), Refusal> {
 
 fn check_conditions(problem: &Problem, starts: &[u16]) -> Result<(), Refusal> {
     let lacking =
-        |&job: &usize| problem.jobs[job].conditions & !facts_at(problem, starts, starts[job] as u32) != 0;
+        |&job: &usize| problem.jobs[job].conditions & !facts_seen(problem, starts, starts[job]) != 0;
     match jobs_in(starts).find(lacking) {
         Some(job) => refuse(13, job as u64),
         None => Ok(()),
@@ -242,37 +263,47 @@ pub fn check_offered<'a>(given: &Given<'a>, starts: &'a [u16]) -> Result<(Proble
 
 // Supports.
 
-/// What has conditions: a job in the plan, or End at the bound with no length.
+/// What has conditions: a job in the plan, or End at the bound with no length and no gap.
 struct Needer {
     job: Option<usize>,
     start: u32,
     finish: u32,
+    gap: u32,
 }
 
 fn needer_of(problem: &Problem, starts: &[u16], job: usize) -> Needer {
-    Needer { job: Some(job), start: starts[job] as u32, finish: finish(&problem.jobs[job], starts[job]) }
+    Needer {
+        job: Some(job),
+        start: starts[job] as u32,
+        finish: finish(&problem.jobs[job], starts[job]),
+        gap: problem.gap as u32,
+    }
 }
 
 fn end_of(problem: &Problem) -> Needer {
-    Needer { job: None, start: problem.bound as u32, finish: problem.bound as u32 }
+    Needer { job: None, start: problem.bound as u32, finish: problem.bound as u32, gap: 0 }
 }
 
-/// No deleter of the fact, other than the needer, comes between the support's start and the needer's finish.
-fn unbroken(problem: &Problem, starts: &[u16], fact: usize, from: u32, needer: &Needer) -> bool {
+/// No deleter of the fact, other than the needer, comes between the support and the needer: each is over before the
+/// support starts, or starts behind the needer, with the gap that the needer has. Nothing is over before Start.
+fn unbroken(problem: &Problem, starts: &[u16], fact: usize, support: Option<usize>, needer: &Needer) -> bool {
     jobs_in(starts)
         .filter(|&job| problem.jobs[job].deletions >> fact & 1 == 1 && Some(job) != needer.job)
-        .all(|job| finish(&problem.jobs[job], starts[job]) <= from || starts[job] as u32 >= needer.finish)
+        .all(|job| {
+            support.is_some_and(|support| over(problem, starts, job, support))
+                || starts[job] as u32 >= needer.finish + needer.gap
+        })
 }
 
 /// Start if it fits, else the lowest job that fits.
 fn named_support(problem: &Problem, starts: &[u16], fact: usize, needer: &Needer) -> u8 {
-    if problem.opening >> fact & 1 == 1 && unbroken(problem, starts, fact, 0, needer) {
+    if problem.opening >> fact & 1 == 1 && unbroken(problem, starts, fact, None, needer) {
         return START;
     }
     jobs_in(starts)
         .filter(|&job| problem.jobs[job].additions >> fact & 1 == 1)
-        .filter(|&job| finish(&problem.jobs[job], starts[job]) <= needer.start)
-        .find(|&job| unbroken(problem, starts, fact, starts[job] as u32, needer))
+        .filter(|&job| finish(&problem.jobs[job], starts[job]) + needer.gap <= needer.start)
+        .find(|&job| unbroken(problem, starts, fact, Some(job), needer))
         .map_or(NO_SUPPORT, |job| job as u8)
 }
 
@@ -319,8 +350,8 @@ pub fn pairs_of(problem: &Problem, starts: &[u16]) -> Vec<(u8, u8)> {
     let mut pairs = Vec::new();
     for a in jobs_in(starts) {
         for b in jobs_in(starts).filter(|&b| b != a) {
-            let before = finish(&jobs[a], starts[a]) <= starts[b] as u32;
-            if before && (interfere(&jobs[a], &jobs[b]) || rows[b].contains(&(a as u8))) {
+            let binding = interfere(&jobs[a], &jobs[b]) || rows[b].contains(&(a as u8));
+            if binding && over(problem, starts, a, b) {
                 pairs.push((a as u8, b as u8));
             }
         }
@@ -353,11 +384,19 @@ pub fn fact_cost(problem: &Problem, estimates: &[u16], fact: usize) -> u16 {
         .unwrap_or(NEVER)
 }
 
+/// What a fact costs a job that needs it: with the gap, unless it is open. No other fact costs 0, and never stays never.
+fn condition_cost(problem: &Problem, estimates: &[u16], fact: usize) -> u16 {
+    match fact_cost(problem, estimates, fact) {
+        0 => 0,
+        cost => cost.saturating_add(problem.gap),
+    }
+}
+
 /// The one solution of the rules, reached from "never" by falling steps: the greater of release and condition cost.
 pub fn job_estimates(problem: &Problem) -> Vec<u16> {
     let mut estimates = vec![NEVER; problem.jobs.len()];
     loop {
-        let costs: Vec<u16> = (0..FACTS).map(|fact| fact_cost(problem, &estimates, fact)).collect();
+        let costs: Vec<u16> = (0..FACTS).map(|fact| condition_cost(problem, &estimates, fact)).collect();
         let better: Vec<u16> = problem
             .jobs
             .iter()
@@ -395,8 +434,8 @@ fn check_asked(jobs: usize, set: u64, pair_count: u64, pairs: &[u8]) -> Result<(
     }
 }
 
-/// The least starts: from the releases on, a second job is moved behind its first until nothing moves or a job ends
-/// too late.
+/// The least starts: from the releases on, a second job is moved behind its first, with the gap between, until nothing
+/// moves or a job ends too late.
 fn least_starts(problem: &Problem, set: u64, pairs: &[u8]) -> Option<Vec<u16>> {
     let jobs = problem.jobs;
     let first = |job: usize| if set >> job & 1 == 1 { jobs[job].release } else { OUT };
@@ -408,7 +447,7 @@ fn least_starts(problem: &Problem, set: u64, pairs: &[u8]) -> Option<Vec<u16>> {
         let mut moved = false;
         for pair in pairs.chunks_exact(2) {
             let (first, second) = (pair[0] as usize, pair[1] as usize);
-            let earliest = finish(&jobs[first], starts[first]);
+            let earliest = finish(&jobs[first], starts[first]) + problem.gap as u32;
             if earliest > problem.bound as u32 {
                 return None;
             }

@@ -41,16 +41,20 @@ pub fn run() -> ExitCode {
     let mut tally = Tally::default();
     test_cases_p(&mut tally);
     test_late_crate(&mut tally);
+    test_hygiene(&mut tally);
     test_against_start_vectors(&mut tally);
     test_against_orders(&mut tally);
     test_known_tables_against_orders(&mut tally);
     test_larger_tables(&mut tally);
     test_known_least_bounds(&mut tally);
     test_offered_plans(&mut tally);
+    test_offered_under_rule_2(&mut tally);
     test_supports_and_pairs(&mut tally);
     test_estimates(&mut tally);
     test_settling(&mut tally);
+    test_gap_as_length(&mut tally);
     test_table_checks(&mut tally);
+    test_rule_marks(&mut tally);
     test_lent_tables(&mut tally);
     test_files(&mut tally);
     test_tenths(&mut tally);
@@ -126,8 +130,28 @@ fn test_late_crate(tally: &mut Tally) {
     tally.same("out of use, however late", plan_of(&unused), Ok(vec![OUT; 4]));
 }
 
-/// The first plan and the least bound of many small tables, without releases and with them, against every start
-/// vector in turn.
+/// A quarter hour between jobs that bind: the numbers of change request Nine.
+fn test_hygiene(tally: &mut Tally) {
+    let all = jobs_u(&[2, 3, 4], 2_880).under_rule_2();
+    tally.same("P3 under rule 2", least_of(&all), Ok((13, vec![0, 9, 5, 5])));
+    tally.same("no sooner", plan_of(&Example { bound: 12, ..all.clone() }), refused(10, 0));
+    tally.same("P1 under rule 2", plan_of(&jobs_u(&[2, 3], 13).under_rule_2()), Ok(vec![0, 5, 5, OUT]));
+    tally.same("P2 under rule 2", plan_of(&jobs_u(&[2, 3], 12).under_rule_2()), refused(10, 0));
+    tally.same("P5 under rule 2", least_of(&jobs_u(&[0], 0).under_rule_2()), Ok((0, vec![OUT; 4])));
+    tally.same("P6 under rule 2", plan_of(&jobs_u(&[0, 1], 2_880).under_rule_2()), refused(10, 0));
+    tally.same("P8 under rule 2", plan_of(&go_twice().under_rule_2()), refused(10, 0));
+    // The goal sees a finish at the bound, so one job alone needs no more time than it takes.
+    let alone = |bound| Example { bound, ..jobs_u(&[1], 0).under_rule_2() };
+    tally.same("a finish at the bound", least_of(&alone(4)), Ok((4, vec![0, OUT, OUT, OUT])));
+    tally.same("a finish behind the bound", plan_of(&alone(3)), refused(10, 0));
+    let late = jobs_u(&[2, 3, 4], 2_880).released(&[0, 0, 6, 0]).under_rule_2();
+    tally.same("late crate under rule 2", least_of(&late), Ok((14, vec![0, 9, 6, 5])));
+    let chained = least_of(&chain(4, true).under_rule_2());
+    tally.same("three gaps in a chain of four", chained, Ok((1 + 2 + 3 + 4 + 3, vec![0, 2, 5, 9])));
+}
+
+/// The first plan and the least bound of many small tables, without releases and with them, under both rules, against
+/// every start vector in turn.
 fn test_against_start_vectors(tally: &mut Tally) {
     let mut dice = Dice(0x1234_5678_9abc_def1);
     let mut releases = Dice(0x5eed_1a7e_c4a7_e5a1);
@@ -139,10 +163,11 @@ fn test_against_start_vectors(tally: &mut Tally) {
                 0 => dice.table(jobs, facts, longest, bound),
                 _ => dice.table_with_goals(jobs, facts, longest, bound, 1 + number % 3),
             };
-            let what = format!("random table {number} of up to {jobs} jobs");
-            check_by_vectors(tally, &what, &example);
             let last = releases.below(bound + 1);
-            check_by_vectors(tally, &(what + ", released"), &releases.with_releases(&example, last));
+            for (way, example) in releases.in_every_way(&example, last) {
+                let what = format!("random table {number} of up to {jobs} jobs{way}");
+                check_by_vectors(tally, &what, &example);
+            }
         }
     }
 }
@@ -153,7 +178,7 @@ fn check_by_vectors(tally: &mut Tally, what: &str, example: &Example) {
     tally.same(what, least_of(example).ok(), brute::least_bound(&problem));
 }
 
-/// The first plans of larger tables, without releases and with them, against every order of jobs.
+/// The first plans of larger tables, without releases and with them, under both rules, against every order of jobs.
 fn test_against_orders(tally: &mut Tally) {
     let mut dice = Dice(0x2468_ace0_1357_9bdf);
     let mut releases = Dice(0x7071_6d61_7274_7321);
@@ -162,10 +187,11 @@ fn test_against_orders(tally: &mut Tally) {
     {
         for number in 0..tables {
             let example = dice.table_with_goals(jobs, facts, longest, bound, 2 + number % 4);
-            let what = format!("random table {number} of up to {jobs} jobs, by orders");
-            check_by_orders_around(tally, &what, &example);
             let last = releases.below(bound + 1);
-            check_by_orders_around(tally, &(what + ", released"), &releases.with_releases(&example, last));
+            for (way, example) in releases.in_every_way(&example, last) {
+                let what = format!("random table {number} of up to {jobs} jobs, by orders{way}");
+                check_by_orders_around(tally, &what, &example);
+            }
         }
     }
 }
@@ -191,8 +217,10 @@ fn test_known_tables_against_orders(tally: &mut Tally) {
             check_by_orders(tally, "known table, by orders", &Example { bound, ..example.clone() });
         }
         for last in [least, 2 * least] {
-            let released = releases.with_releases(&Example { bound: 3 * least, ..example.clone() }, last);
-            check_by_orders_around(tally, "known table, released", &released);
+            let example = Example { bound: 3 * least, ..example.clone() };
+            for (way, example) in releases.in_every_way(&example, last) {
+                check_by_orders_around(tally, &format!("known table, by orders{way}"), &example);
+            }
         }
     }
 }
@@ -208,9 +236,9 @@ fn test_larger_tables(tally: &mut Tally) {
     let mut releases = Dice(0x1a4d_5ca7_e2f1_1967);
     for number in 0..3_000 {
         let example = dice.table_with_goals(9, 9, 6, 60, 2 + number % 5);
-        let what = format!("table {number} of up to 9 jobs");
-        check_least(tally, &what, &example);
-        check_least(tally, &(what + ", released"), &releases.with_releases(&example, 40));
+        for (way, example) in releases.in_every_way(&example, 40) {
+            check_least(tally, &format!("table {number} of up to 9 jobs{way}"), &example);
+        }
     }
 }
 
@@ -311,11 +339,54 @@ fn test_offered_plans(tally: &mut Tally) {
     tally.same("early before a goal", offer(&late, &[0, OUT, 5, 5]), refused(21, 2));
 }
 
+/// What touches is too near under rule 2, and a start sees the finishes up to a quarter hour before it.
+fn test_offered_under_rule_2(tally: &mut Tally) {
+    let all = jobs_u(&[2, 3, 4], 13).under_rule_2();
+    tally.same("a quarter hour apart", offer(&all, &[0, 9, 5, 5]), Ok(()));
+    tally.same("touching", offer(&all, &[0, 8, 5, 5]), refused(12, 1));
+    tally.same("touching the other way", offer(&all, &[0, 5, 5, 7]), refused(12, 1));
+    tally.same("apart the other way", offer(&all, &[0, 5, 5, 8]), refused(14, 2));
+    tally.same("a finish just now", offer(&all, &[0, 9, 4, 5]), refused(13, 2));
+    tally.same("touching before a condition", offer(&all, &[0, 8, 4, 5]), refused(12, 1));
+    tally.same("late before touching", offer(&all, &[0, 8, 6, 5]), refused(11, 2));
+    let early = all.released(&[0, 0, 6, 0]);
+    tally.same("early before touching", offer(&early, &[0, 8, 5, 5]), refused(21, 2));
+    let first = Example {
+        jobs: vec![job(&[], &[1], &[], 1), job(&[0], &[2], &[], 1), job(&[1], &[3], &[], 1)],
+        atoms: 4,
+        opening: 1,
+        goals: 0,
+        bound: 3,
+    };
+    let first = first.under_rule_2();
+    for start in [0, 1] {
+        tally.same("opening facts", offer(&first, &[0, start, OUT]), Ok(()));
+        tally.same("seen at 2 first", offer(&first, &[0, OUT, start]), refused(13, 2));
+    }
+    tally.same("seen at 2", offer(&first, &[0, OUT, 2]), Ok(()));
+}
+
 fn test_supports_and_pairs(tally: &mut Tally) {
-    let all = jobs_u(&[2, 3, 4], 12);
-    let starts = [0, 7, 4, 4];
+    let all = jobs_u(&[2, 3, 4], 13);
+    check_supports_of_p3(tally, &all, &[0, 7, 4, 4]);
+    check_supports_of_p3(tally, &all.under_rule_2(), &[0, 9, 5, 5]);
+    test_deleter_between(tally);
+    test_deleter_behind(tally);
+    test_touching_adder(tally);
+    let mut dice = Dice(77);
+    let mut releases = Dice(1_977);
+    for number in 0..2_000 {
+        let example = dice.table_with_goals(7, 7, 4, 30, 2 + number % 4);
+        for (_, example) in releases.in_every_way(&example, 20) {
+            check_random_pairs(tally, &example);
+        }
+    }
+}
+
+/// Either rule's plan for P3 has the same supports and binding pairs.
+fn check_supports_of_p3(tally: &mut Tally, all: &Example, starts: &[u16]) {
     let mut table = vec![9; 64 * 5 + 3];
-    tally.same("supports", supports(&all.given(), &starts, &mut table), Ok(()));
+    tally.same("supports", supports(&all.given(), starts, &mut table), Ok(()));
     let named: Vec<(usize, u8)> =
         table.iter().copied().enumerate().filter(|&(_, by)| by != NO_SUPPORT).collect();
     let expected = vec![
@@ -332,16 +403,8 @@ fn test_supports_and_pairs(tally: &mut Tally) {
     ];
     tally.same("named supports", named, expected);
     let mut pairs = vec![9; 560];
-    tally.same("pairs", binding_pairs(&all.given(), &starts, &mut pairs), Ok(4));
+    tally.same("pairs", binding_pairs(&all.given(), starts, &mut pairs), Ok(4));
     tally.same("pairs listed", pairs[..10].to_vec(), vec![0, 1, 0, 2, 0, 3, 3, 1, 9, 9]);
-    test_deleter_between(tally);
-    let mut dice = Dice(77);
-    let mut releases = Dice(1_977);
-    for number in 0..2_000 {
-        let example = dice.table_with_goals(7, 7, 4, 30, 2 + number % 4);
-        check_random_pairs(tally, &example);
-        check_random_pairs(tally, &releases.with_releases(&example, 20));
-    }
 }
 
 /// An early adder is no support when a deleter comes in between, and Start is none either.
@@ -356,12 +419,51 @@ fn test_deleter_between(tally: &mut Tally) {
         atoms: 3,
         opening: 1,
         goals: word(&[0, 2]),
+        bound: 7,
+    };
+    for (example, starts) in [(example.under_rule_2(), [0, 2, 4, 6]), (example, [0, 1, 2, 3])] {
+        let mut table = vec![0; 320];
+        tally.same("deleter between", supports(&example.given(), &starts, &mut table), Ok(()));
+        tally.same("support of the job", table[192], 2);
+        tally.same("support of End", table[256], 2);
+    }
+}
+
+/// Start is the support of what a later job deletes, with the gap behind the needer.
+fn test_deleter_behind(tally: &mut Tally) {
+    let example = Example {
+        jobs: vec![job(&[0], &[1], &[], 2), job(&[], &[2], &[0], 1)],
+        atoms: 3,
+        opening: 1,
+        goals: word(&[1, 2]),
         bound: 4,
     };
-    let mut table = vec![0; 320];
-    tally.same("deleter between", supports(&example.given(), &[0, 1, 2, 3], &mut table), Ok(()));
-    tally.same("support of the job", table[192], 2);
-    tally.same("support of End", table[256], 2);
+    let supported = |example: &Example, starts: &[u16]| {
+        let mut table = vec![0; 192];
+        supports(&example.given(), starts, &mut table).map(|_| table[0])
+    };
+    tally.same("deleter touching", supported(&example, &[0, 2]), Ok(START));
+    tally.same("deleter touching, rule 2", supported(&example.under_rule_2(), &[0, 2]), refused(12, 0));
+    tally.same("deleter behind, rule 2", supported(&example.under_rule_2(), &[0, 3]), Ok(START));
+}
+
+/// Under rule 2 an adder that touches is no support, save of End.
+fn test_touching_adder(tally: &mut Tally) {
+    let example = Example {
+        jobs: vec![job(&[], &[0], &[], 2), job(&[], &[0], &[], 1), job(&[0], &[1], &[], 1)],
+        atoms: 2,
+        opening: 0,
+        goals: word(&[1]),
+        bound: 3,
+    };
+    for (example, support) in [(example.under_rule_2(), 1), (example, 0)] {
+        let mut table = vec![9; 552];
+        tally.same("touching adder", supports(&example.given(), &[0, 0, 2], &mut table), Ok(()));
+        tally.same("support of the job", table[128], support);
+        tally.same("support of End at the bound", table[193], 2);
+        tally.same("the one pair", binding_pairs(&example.given(), &[0, 0, 2], &mut table), Ok(1));
+        tally.same("with the support", [table[0], table[1]], [support, 2]);
+    }
 }
 
 /// Every condition has a support, and settling the binding pairs keeps the plan valid and makes nothing later.
@@ -414,16 +516,25 @@ fn test_estimates(tally: &mut Tally) {
     let both = estimated(&example.released(&releases));
     tally.same("the greater of both", both, Ok(vec![26, 2_000, 19, 10, 5]));
     tally.same("released, never", estimated(&ring.released(&releases)), Ok(vec![OUT, OUT, OUT, 10, 5]));
-    tally.same("as late as can be", estimated(&chain(24, false).released(&[2_880; 24])), Ok(late_chain()));
+    let hygiene = jobs_u(&[], 9_999).under_rule_2();
+    tally.same("estimates under rule 2", estimated(&hygiene), Ok(vec![0, 5, 5, 5, 5]));
+    let ring_2 = estimated(&example.under_rule_2());
+    tally.same("no gap at an open condition", ring_2, Ok(vec![18, 979, 10, 0, 5]));
+    tally.same("never, with a gap", estimated(&ring.under_rule_2()), Ok(vec![OUT, OUT, OUT, 0, 5]));
+    let both = estimated(&example.released(&releases).under_rule_2());
+    tally.same("the greater of both, rule 2", both, Ok(vec![28, 2_000, 20, 10, 5]));
+    let latest = chain(24, false).released(&[2_880; 24]);
+    tally.same("as late as can be", estimated(&latest), Ok(late_chain(0)));
+    tally.same("later with gaps", estimated(&latest.under_rule_2()), Ok(late_chain(1)));
     test_estimates_against_start_vectors(tally);
 }
 
 /// The estimates of a chain of 24 whose jobs are all released at 2,880.
-fn late_chain() -> Vec<u16> {
+fn late_chain(gap: u16) -> Vec<u16> {
     let jobs = chain(24, false).jobs;
-    let sums = jobs.iter().scan(2_880, |finish, job| {
-        *finish += job.duration;
-        Some(*finish - job.duration)
+    let sums = jobs.iter().scan(2_880, |start, job| {
+        *start += job.duration + gap;
+        Some(*start - job.duration - gap)
     });
     sums.chain([5]).collect()
 }
@@ -434,8 +545,7 @@ fn test_estimates_against_start_vectors(tally: &mut Tally) {
     for _ in 0..1_500 {
         let mut example = dice.table(4, 5, 3, 9);
         example.jobs.iter_mut().for_each(|job| job.deletions = 0);
-        let released = dice.with_releases(&example, 6);
-        for example in [example, released] {
+        for (way, example) in dice.in_every_way(&example, 6) {
             let problem = check_bounded_table(&example.given()).expect("random tables pass the checks");
             let mut found = job_estimates(&problem);
             // What ends after the bound is in no vector.
@@ -444,7 +554,8 @@ fn test_estimates_against_start_vectors(tally: &mut Tally) {
                     *estimate = OUT;
                 }
             }
-            tally.same("estimates by start vectors", found, brute::earliest_starts(&problem));
+            let what = format!("estimates by start vectors{way}");
+            tally.same(&what, found, brute::earliest_starts(&problem));
         }
     }
 }
@@ -474,23 +585,29 @@ fn test_settling(tally: &mut Tally) {
     test_settling_against_start_vectors(tally);
 }
 
-/// A job of the set starts at its release or behind a first job, whichever is later.
+/// A job of the set starts at its release or behind a first job, whichever is later; rule 2 adds the gap to each pair.
 fn test_settling_released(tally: &mut Tally) {
-    let settled = |bound| {
-        let example = jobs_u(&[], bound).released(&[2, 5, 2_880, 9]);
+    let settled = |example: &Example, bound| {
+        let example = Example { bound, ..example.clone() };
         let mut table = vec![8; 5];
-        settle(&example.given(), 0b1011, 2, &[0, 1, 1, 3], &mut table).map(|_| table)
+        settle(&example.given(), 0b1011, 3, &[0, 1, 1, 3, 0, 1], &mut table).map(|_| table)
     };
-    tally.same("settled from releases", settled(12), Ok(vec![2, 6, OUT, 9, 8]));
-    tally.same("no room behind a release", settled(11), refused(16, 0));
+    let plain = jobs_u(&[], 0);
+    let late = plain.released(&[2, 5, 2_880, 9]);
+    tally.same("settled from releases", settled(&late, 12), Ok(vec![2, 6, OUT, 9, 8]));
+    tally.same("no room behind a release", settled(&late, 11), refused(16, 0));
+    tally.same("settled with gaps", settled(&plain.under_rule_2(), 11), Ok(vec![0, 5, OUT, 8, 8]));
+    tally.same("no room for gaps", settled(&plain.under_rule_2(), 10), refused(16, 0));
+    tally.same("gaps and releases", settled(&late.under_rule_2(), 13), Ok(vec![2, 7, OUT, 10, 8]));
 }
 
-/// Few jobs, few pairs, circles among them.
+/// Few jobs, few pairs, circles among them, every other table under rule 2.
 fn test_settling_against_start_vectors(tally: &mut Tally) {
     let mut dice = Dice(0x05e7_71e5_7a27_5011);
-    for _ in 0..3_000 {
+    for number in 0..4_000 {
         let example = dice.table(4, 3, 3, 9);
         let example = dice.with_releases(&example, 6);
+        let example = if number % 2 == 0 { example } else { example.under_rule_2() };
         let problem = check_bounded_table(&example.given()).expect("random tables pass the checks");
         let set = dice.next() & ((1 << problem.jobs.len()) - 1);
         let inside: Vec<usize> = rules::members(set).collect();
@@ -502,6 +619,43 @@ fn test_settling_against_start_vectors(tally: &mut Tally) {
         let found = settle(&example.given(), set, pairs.len() as u64 / 2, &pairs, &mut table).map(|_| table);
         let expected = brute::settled(&problem, set, &pairs).ok_or(Refusal { number: 16, place: 0 });
         tally.same("settled by start vectors", found, expected);
+    }
+}
+
+/// What every call on an offered plan, its estimates and its settling say.
+fn all_answers(example: &Example, starts: &[u16], pairs: &[u8]) -> impl PartialEq + std::fmt::Debug {
+    let given = example.given();
+    let (mut supported, mut bound) = (vec![0; 64 * (starts.len() + 1)], vec![0; 552]);
+    let (mut estimated, mut settled) = (vec![0; starts.len()], vec![0; starts.len()]);
+    let set = (1 << starts.len()) - 1;
+    let answers = (
+        offer(example, starts),
+        supports(&given, starts, &mut supported),
+        binding_pairs(&given, starts, &mut bound),
+        estimates(&given, &mut estimated),
+        settle(&given, set, pairs.len() as u64 / 2, pairs, &mut settled),
+    );
+    (answers, supported, bound, estimated, settled)
+}
+
+/// The gap in other words: under rule 2 all is answered as under rule 1 with each job and the bound a quarter hour
+/// longer. The plans are the first ones, some with a job moved, and any at all.
+fn test_gap_as_length(tally: &mut Tally) {
+    let mut dice = Dice(0x9a95_1e57_0f11_e5a1);
+    for number in 0..6_000 {
+        let example = dice.table_with_goals(6, 6, 4, 24, 1 + number % 4);
+        let example = dice.with_releases(&example, 9).under_rule_2();
+        let mut longer = Example { atoms: example.atoms - 128, bound: example.bound + 1, ..example.clone() };
+        longer.jobs.iter_mut().for_each(|job| job.duration += 1);
+        let jobs = example.jobs.len() as u64;
+        let any_starts = (0..jobs).map(|_| dice.below(example.bound + 2) as u16).collect();
+        let mut starts = plan_of(&example).unwrap_or(any_starts);
+        if let Some(start) = starts.get_mut(dice.below(jobs + 2) as usize) {
+            *start = start.saturating_sub(1);
+        }
+        let pairs: Vec<u8> = (0..2 * dice.below(jobs + 1)).map(|_| dice.below(jobs.max(1)) as u8).collect();
+        let found = all_answers(&example, &starts, &pairs);
+        tally.same("longer jobs instead of gaps", found, all_answers(&longer, &starts, &pairs));
     }
 }
 
@@ -534,6 +688,25 @@ fn test_table_checks(tally: &mut Tally) {
     tally.same("3", plan_within(&short, &mut [0; 30]), refused(3, 0));
     let endless = Given { count: u64::MAX, ..example.given() };
     tally.same("3 with any count", plan_within(&endless, &mut [0; 30]), refused(3, 0));
+}
+
+/// The mark of rule 2 is taken off before the atom count is looked at, by check 4 and by check 7.
+fn test_rule_marks(tally: &mut Tally) {
+    let adding = |fact, atoms| {
+        let jobs = vec![job(&[], &[fact], &[], 1)];
+        plan_of(&Example { jobs, atoms, opening: 0, goals: word(&[fact]), bound: 1 })
+    };
+    for atoms in [0, 65, 127, 128, 193, 255, 257, 261] {
+        tally.same(&format!("{atoms} atoms"), adding(0, atoms), refused(4, 0));
+    }
+    for (fact, atoms) in [(0, 1), (63, 64), (0, 129), (63, 192), (4, 133)] {
+        tally.same(&format!("fact {fact} with {atoms} atoms"), adding(fact, atoms), Ok(vec![0]));
+    }
+    for (fact, atoms) in [(1, 1), (1, 129), (63, 129), (5, 133), (63, 191)] {
+        tally.same(&format!("fact {fact} with {atoms} atoms"), adding(fact, atoms), refused(7, 0));
+    }
+    let beside = Example { goals: word(&[5]), ..jobs_u(&[], 9).under_rule_2() };
+    tally.same("7 in the goals under rule 2", plan_of(&beside), refused(7, 24));
 }
 
 fn test_lent_tables(tally: &mut Tally) {
@@ -585,6 +758,7 @@ fn test_files(tally: &mut Tally) {
 fn check_round_trip(tally: &mut Tally, dice: &mut Dice) {
     let example = dice.table(24, 64, 960, 2_880);
     let example = dice.with_releases(&example, 2_880);
+    let example = if dice.below(2) == 0 { example } else { example.under_rule_2() };
     let used = dice.below(200) as usize;
     let length = used + 32 * example.jobs.len() + 24;
     let before: Vec<u8> = (0..length + dice.below(40) as usize).map(|_| dice.next() as u8).collect();
@@ -628,7 +802,11 @@ fn test_reader(tally: &mut Tally) {
         tally.same("reader 2, four bytes", changed(&[(3 * 32 + byte, 1), (trailer + 19, 65)]), refused(2, 0));
     }
     tally.same("reader 3", read_file(&file, &mut [Job::default(); 3]), refused(3, 0));
-    tally.same("reader 4", changed(&[(trailer + 19, 65)]), refused(4, 0));
+    for atoms in [0, 65, 127, 128, 193, 255] {
+        tally.same("reader 4", changed(&[(trailer + 19, atoms)]), refused(4, 0));
+    }
+    tally.same("reader, rule 2", changed(&[(trailer + 19, 133)]), Ok(saved_of(&example.under_rule_2())));
+    tally.same("reader 7, rule 2", changed(&[(trailer + 19, 131)]), refused(7, 2));
     tally.same("reader 6", changed(&[(32 + 24, 0)]), refused(6, 1));
     tally.same("reader 7", changed(&[(64, 32)]), refused(7, 2));
     tally.same("reader, release 2,880", changed(&[(58, 0x40), (59, 0x0b)]), Ok(saved_of(&example)));
@@ -677,7 +855,10 @@ fn test_writer(tally: &mut Tally) {
     tally.same("writer 3", write(&given, 151, 0), (refused(3, 0), false));
     tally.same("writer 3, use beyond the buffer", write(&given, 10, 20), (refused(3, 0), false));
     tally.same("writer 3, records", write(&Given { count: 5, ..given }, 900, 0), (refused(3, 0), false));
-    tally.same("writer 4", write(&Given { atoms: 0, ..given }, 900, 0), (refused(4, 0), false));
+    for atoms in [0, 128, 193] {
+        tally.same("writer 4", write(&Given { atoms, ..given }, 900, 0), (refused(4, 0), false));
+    }
+    tally.same("writer, rule 2", file_of(&example.under_rule_2())[147], 133);
     let late = example.released(&[0, 0, 2_881]);
     tally.same("writer 20", write(&late.given(), 900, 0), (refused(20, 2), false));
     tally.same("writer 9", write(&Given { bound: 2_881, ..given }, 900, 0), (refused(9, 0), false));
@@ -806,6 +987,9 @@ fn test_bench(tally: &mut Tally) {
     let text = "least 14\n0 4 0\n4 7 3\n6 14 2\n7 9 1\n0 before 1\n0 before 2\n0 before 3\n3 before 1\n";
     let late = jobs_u(&[2, 3, 4], 2_880).released(&[0, 0, 6, 0]);
     tally.same("bench of the late crate", bench::text(&file_of(&late)).as_str(), text);
+    let text = "least 13\n0 4 0\n5 13 2\n5 8 3\n9 11 1\n0 before 1\n0 before 2\n0 before 3\n3 before 1\n";
+    let hygiene = jobs_u(&[2, 3, 4], 13).under_rule_2();
+    tally.same("bench P3 under rule 2", bench::text(&file_of(&hygiene)).as_str(), text);
     tally.same("bench P2", bench::text(&file_of(&jobs_u(&[2, 3], 11))).as_str(), "refused 10 0\n");
     tally.same("bench P5", bench::text(&file_of(&jobs_u(&[0], 2_880))).as_str(), "least 0\n");
     tally.same("bench of nothing", bench::text(&[]).as_str(), "refused 2 0\n");
@@ -834,6 +1018,7 @@ fn test_calls(tally: &mut Tally) {
     stream.extend(call_bytes([1, 2, 5, 1, 0, 12, 0, 0, 4, 8, 0, 0, 0, 0, 0, 0], &late, &starts));
     stream.extend(call_bytes(head(3, 0, 0, 0, 4, 0), &jobs, &[]));
     stream.extend(call_bytes(head(3, 0, 0, 0, 3, 0), &jobs, &[]));
+    stream.extend(call_bytes([3, 4, 133, 1, 0b11100, 13, 0, 0, 4, 0, 4, 0, 0, 0, 0, 0], &jobs, &[]));
     stream.extend(call_bytes(head(4, 0, 0, 8, 2, 1), &jobs, &starts));
     stream.extend(call_bytes(head(6, 0, 0, 0, 4, 0), &jobs, &[]));
     stream.extend(call_bytes(head(7, 3, 1, 2, 4, 0), &jobs, &[0, 1]));
@@ -850,6 +1035,7 @@ fn test_calls(tally: &mut Tally) {
         "21 1 0",
         "0 0 12 0000070004000400",
         "3 0 65535 000000000000",
+        "0 0 13 0000090005000500",
         "3 0 0 0101",
         "0 0 0 0000040004000400",
         "0 0 0 00000400ffffffff",

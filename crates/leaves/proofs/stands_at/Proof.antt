@@ -19,9 +19,14 @@ returns-4 : tie.Need-returns-4
 returns-4 c = (let a = c .before .before .before .before .before .before .before .before .before .args in let i = passed (c .before .before .before .before .before .before .before .before .inside .ensures) (c .before .before .before .before .before .before .before .if1 .left) in checks-dead (λ P e. out (now (a .s)) P (a .j) i (λ Q k lo hi f. omega arith)))
 
 returns-5 : tie.Need-returns-5
-returns-5 c = (let a = c .before .before .before .before .before .before .before .before .before .before .before .before .before .before .args in let i = passed (c .before .before .before .before .before .before .before .before .before .before .before .before .before .inside .ensures) (c .before .before .before .before .before .before .before .before .before .before .before .before .if1 .left) in let x = c .before .before .sum .ensures .0 in checks-le (c .before .before .sum .result) (c .wide .result)
-    (λ h i. record { below = omega arith; free = test-no (c .before .before .before .before .before .before .before .before .before .barred .ensures) (c .before .before .before .before .before .before .before .before .if3 .left); window = omega arith; ends = omega (arith, x) })
-    (λ h P e. out (now (a .s)) P (a .j) i (λ Q k lo hi f. omega (arith, x, e .bound, e .listed .gap, e .listed .steps (a .j) (omega arith)))))
+returns-5 c =
+    let a = c .before .before .before .before .before .before .before .before .before .before .before .before .before .before .before .args in
+    let i = passed (c .before .before .before .before .before .before .before .before .before .before .before .before .before .before .inside .ensures) (c .before .before .before .before .before .before .before .before .before .before .before .before .before .if1 .left) in
+    let x = c .before .before .before .sum .ensures .0 in
+    let y = c .sum2 .ensures .0 in
+    checks-le (c .before .before .before .sum .result) (c .sum2 .result)
+    (λ h i. record { below = omega arith; free = test-no (c .before .before .before .before .before .before .before .before .before .before .barred .ensures) (c .before .before .before .before .before .before .before .before .before .if3 .left); window = omega arith; ends = omega (arith, x, y) })
+    (λ h P e. out (now (a .s)) P (a .j) i (λ Q k lo hi f. omega (arith, x, y, e .bound, e .listed .gap, e .listed .steps (a .j) (omega arith))))
 
 pub stands-at-spec : {M : Type 1} → statement M
 stands-at-spec =
@@ -36,6 +41,7 @@ stands-at-spec =
     (λ c κs. search needs)
     (λ c κs. search needs)
     returns-4
+    (λ c κs. search needs)
     (λ c κs. search needs)
     (λ c κs. search needs)
     (λ c κs. search needs)

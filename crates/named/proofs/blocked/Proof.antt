@@ -18,17 +18,17 @@ use Rattle.named.proofs.blocked.Statement.{statement}
 use Rattle.named.proofs.blocked.Tie as tie
 
 abbrev Inv-loop : tie.InvT-loop
-Inv-loop s c from l n w₀ d₀ w d = (d ≤ n) × ((q : Ask) (p : ℕ) → has w p ≡ any (blocks (problem l q) (starts s) p (consumerOf c) 0 from) d)
+Inv-loop s c lag from l n w₀ d₀ w d = (d ≤ n) × ((q : Ask) (p : ℕ) → has w p ≡ any (blocks (problem l q) (starts s) p (consumerOf c) lag from) d)
 
 abbrev μ-loop : tie.MeasureT-loop
-μ-loop s c from l n w₀ d₀ w d = n - d
+μ-loop s c lag from l n w₀ d₀ w d = n - d
 
 loop-holds : tie.Need-loop-holds Inv-loop μ-loop
 unfolding any least
 loop-holds c = (omega arith, λ q p. no-fact p)
 
 loop-again : tie.Need-loop-again Inv-loop μ-loop
-loop-again c = (omega arith, λ q p. has-or (c .before .before .before .before .before .before .loop .w) _ p ∙ ap₂ (λ (x y : Bool). x || y) (c .before .before .before .before .before .before .loop .inv .1 q p) (c .word-if .ensures p ∙ blocks-of (c .before .before .before .before .before .before .before .before .args .t1) q (c .before .before .before .before .before .before .before .before .args .s .now) (c .before .before .before .before .before .before .before .before .args .c) p (c .before .before .before .before .before .before .before .before .args .from) (c .before .before .before .before .before .before .loop .d) (c .before .before .in-way .ensures)) ∙ sym (any-more _ (c .before .before .before .before .before .before .loop .d)))
+loop-again c = (omega arith, λ q p. has-or (c .before .before .before .before .before .before .loop .w) _ p ∙ ap₂ (λ (x y : Bool). x || y) (c .before .before .before .before .before .before .loop .inv .1 q p) (c .word-if .ensures p ∙ blocks-of (c .before .before .before .before .before .before .before .before .args .t1) q (c .before .before .before .before .before .before .before .before .args .s .now) (c .before .before .before .before .before .before .before .before .args .c) p (c .before .before .before .before .before .before .before .before .args .lag) (c .before .before .before .before .before .before .before .before .args .from) (c .before .before .before .before .before .before .loop .d) (c .before .before .in-way .ensures)) ∙ sym (any-more _ (c .before .before .before .before .before .before .loop .d)))
 
 returns : tie.Need-returns Inv-loop μ-loop
 returns c = let e : c .before .loop .d ≡ c .before .before .before .args .q .jobs = omega arith in λ p. rw e at (c .before .loop .inv .1 (c .before .before .before .args .q) p)

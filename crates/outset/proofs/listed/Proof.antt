@@ -9,7 +9,7 @@ use Rattle.outset.proofs.listed.Statement.{statement}
 use Rattle.outset.proofs.listed.Tie as tie
 
 abbrev Inv-loop : tie.InvT-loop
-Inv-loop l q est t₀ i₀ t i = (i ≤ 228) × (length t ≡ 852) × Lists l q est t i
+Inv-loop l q est t₀ i₀ t i = (i ≤ 228) × (length t ≡ 853) × Lists l q est t i
 
 abbrev μ-loop : tie.MeasureT-loop
 μ-loop l q est t₀ i₀ t i = 228 - i

@@ -12,7 +12,7 @@ returns-2 c = simp (ne-eqb _ _ (c .before .before .if1 .left), eq-eqb _ _ (c .be
 
 returns-3 : tie.Need-returns-3
 unfolding jobStrays
-returns-3 c = simp (ne-eqb _ _ (c .before .before .before .before .if1 .left), ne-eqb _ _ (c .before .before .before .if2 .left), eq-eqb _ _ (c .before .before .if3 .taken)) (c .job-strays .ensures)
+returns-3 c = simp (ne-eqb _ _ (c .before .before .before .before .if1 .left), ne-eqb _ _ (c .before .before .before .if2 .left), eq-eqb _ _ (c .before .before .if3 .taken), ← c .before .atoms .ensures) (c .job-strays .ensures)
 
 returns-4 : tie.Need-returns-4
 unfolding undoes
@@ -27,6 +27,7 @@ job-fails-spec =
     (λ c κs. search needs)
     returns
     returns-2
+    (λ c κs. search needs)
     (λ c. search needs)
     (λ c κs. search needs)
     returns-3

@@ -9,14 +9,18 @@ use Rattle.times.proofs.push.Statement.{statement}
 use Rattle.times.proofs.push.Tie as tie
 
 returns : tie.Need-returns
-returns c = let len : length (c .before .before .before .before .before .args .t1) ≡ 24 = search needs in record { room = omega arith; some = λ e. absurd (false≢true e); none = λ e. omega (arith, c .before .before .before .before .wide .ensures .0, c .before .before .before .wide2 .ensures .0, c .before .before .wide3 .ensures .0, c .before .wide4 .ensures .0) }
+returns c =
+    let len : length (c .before .before .before .before .before .before .args .t1) ≡ 24 = search needs in
+    record { room = omega arith; some = λ e. absurd (false≢true e); none = λ e. omega (arith, c .before .before .before .before .before .wide .ensures .0, c .before .before .before .before .wide2 .ensures .0, c .before .before .before .wide3 .ensures .0, c .before .before .wide4 .ensures .0, c .before .wide5 .ensures .0) }
 
 returns-2 : tie.Need-returns-2
-returns-2 c = let len : length (c .before .before .before .before .before .before .args .t1) ≡ 24 = search needs in
-    let x : c .before .before .before .before .before .wide .result + c .before .before .before .before .wide2 .result ≡ entry (c .before .before .before .before .before .before .args .t1) (c .before .before .before .before .before .before .args .a) + c .before .before .before .before .before .before .args .first = omega (arith, c .before .before .before .before .before .wide .ensures .0, c .before .before .before .before .wide2 .ensures .0) in
+returns-2 c =
+    let a = c .before .before .before .before .before .before .before .args in
+    let len : length (a .t1) ≡ 24 = search needs in
+    let x : c .before .before .before .before .before .before .wide .result + c .before .before .before .before .before .wide2 .result + c .before .before .before .before .wide3 .result ≡ entry (a .t1) (a .a) + a .first + a .gap = omega (arith, c .before .before .before .before .before .before .wide .ensures .0, c .before .before .before .before .before .wide2 .ensures .0, c .before .before .before .before .wide3 .ensures .0, c .before .before .before .wide4 .ensures .0, c .before .before .wide5 .ensures .0) in
     record {
       room = omega arith;
-      some = λ e. (ap (λ (v : ℕ). set (c .before .before .before .before .before .before .args .t1) (c .before .before .before .before .before .before .args .b) v) (c .higher .ensures ∙ ap (max (entry (c .before .before .before .before .before .before .args .t1) (c .before .before .before .before .before .before .args .b))) x), omega (arith, c .before .before .before .before .before .wide .ensures .0, c .before .before .before .before .wide2 .ensures .0, c .before .before .before .wide3 .ensures .0, c .before .before .wide4 .ensures .0));
+      some = λ e. (ap (λ (v : ℕ). set (a .t1) (a .b) v) (c .higher .ensures ∙ ap (max (entry (a .t1) (a .b))) x), omega (arith, c .before .before .before .before .before .before .wide .ensures .0, c .before .before .before .before .before .wide2 .ensures .0, c .before .before .before .before .wide3 .ensures .0, c .before .before .before .wide4 .ensures .0, c .before .before .wide5 .ensures .0));
       none = λ e. absurd (true≢false e);
     }
 
@@ -27,6 +31,8 @@ push-spec =
     (λ c. search needs)
     (λ c. search needs)
     (λ c κs. search needs)
+    (λ c κs. search needs)
+    (λ c. search needs)
     (λ c κs. search needs)
     (λ c. search needs)
     (λ c κs. search needs)

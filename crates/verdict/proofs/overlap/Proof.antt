@@ -6,10 +6,14 @@ use Rattle.verdict.proofs.overlap.Statement.{statement}
 use Rattle.verdict.proofs.overlap.Tie as tie
 
 returns : tie.Need-returns
-returns c = λ q. and-next (c .before .before .together .ensures) (c .before .if1 .taken) (c .interferes .ensures q) ∙ overlap-of (c .before .before .before .before .before .before .before .before .args .t1) q (c .before .before .before .before .before .before .before .before .args .s .now) (c .before .before .before .before .before .before .before .before .args .i) (c .before .before .before .before .before .before .before .before .args .j)
+returns c =
+    let a = c .before .before .before .before .before .before .before .before .before .args in
+    and-next (c .before .before .together .ensures) (c .before .if1 .taken) (c .interferes .ensures (a .q)) ∙ overlap-of (a .t1) (a .q) (a .s .now) (a .i) (a .j) (c .before .before .before .gap .ensures)
 
 returns-2 : tie.Need-returns-2
-returns-2 c = λ q. sym (c .if1 .left) ∙ and-first _ (c .before .together .ensures) (c .if1 .left) ∙ overlap-of (c .before .before .before .before .before .before .before .args .t1) q (c .before .before .before .before .before .before .before .args .s .now) (c .before .before .before .before .before .before .before .args .i) (c .before .before .before .before .before .before .before .args .j)
+returns-2 c =
+    let a = c .before .before .before .before .before .before .before .before .args in
+    sym (c .if1 .left) ∙ and-first _ (c .before .together .ensures) (c .if1 .left) ∙ overlap-of (a .t1) (a .q) (a .s .now) (a .i) (a .j) (c .before .before .gap .ensures)
 
 pub overlap-spec : {M : Type 1} → statement M
 overlap-spec =
@@ -23,6 +27,7 @@ overlap-spec =
     (λ c. search needs)
     (λ c. search needs)
     (λ c. search needs)
+    (λ c κs. search needs)
     (λ c κs. search needs)
     (λ c κs. search needs)
     returns

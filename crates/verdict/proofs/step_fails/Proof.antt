@@ -1,3 +1,5 @@
+use mathlib.Core.Path.{_∙_}
+use native.Mathlib.Nat.{add-zero}
 use borrow.Author.Needs.{needs}
 use borrow.Author.Tests.{eq-eqb, ne-eqb}
 use Rattle.rules.specs.Plans.{inPlan}
@@ -7,7 +9,7 @@ use Rattle.verdict.proofs.step_fails.Tie as tie
 
 returns : tie.Need-returns
 unfolding late inPlan
-returns c = simp (eq-eqb _ _ (c .before .before .before .if1 .taken)) (c .ends-after .ensures)
+returns c = simp (eq-eqb _ _ (c .before .before .before .if1 .taken)) (c .ends-after .ensures ∙ simp add-zero)
 
 returns-2 : tie.Need-returns-2
 unfolding early inPlan
