@@ -228,7 +228,7 @@ nuzzlefleece_answer nuzzlefleece_settle(const nuzzlefleece_action *records, size
 /*
  * Reads the last save of a job file: fills one record a job and gives the file's numbers, the atom count as it stands there, with the
  * mark of rule 2 where it has one. A file written before there were releases has zeros in their place. A library before 1.2.0 refuses
- * a file with the mark with 4. Refusals 1 to 9 and 20.
+ * a file with the mark, with 4 unless something before that is wrong. Refusals 1 to 9 and 20.
  * 255 records lent take the count of any file, so that 3 cannot come; a count over 24 is then 5.
  */
 nuzzlefleece_read_answer nuzzlefleece_read_file(const uint8_t *file, size_t file_length, nuzzlefleece_action *records, size_t lent);

@@ -21,6 +21,7 @@ use Rattle.rules.proofs.Scope.{valid-01}
 use Rattle.rules.proofs.Checked.{in-range}
 use Rattle.tables.specs.declared.Action.{Action}
 use Rattle.tables.specs.declared.Loaded.{Loaded}
+use Rattle.tables.specs.declared.Ask.{Ask}
 use Rattle.tables.specs.Tables.{noJob, jobAt, AtomCount, problem, callChecks}
 use Rattle.tables.proofs.Laws.{rule-1}
 use Rattle.tables.proofs.Calls.{cleared}
@@ -142,10 +143,17 @@ module _ (file : List ℕ) (room : ℕ) (taken : readChecks01 file room ≡ acce
 
 -- ── a file of rule 2 ──
 
+-- before there was a mark, a table with enough records and 128 or more for the atom count was refused with 4, in a call and in a file, with releases and without
+pub marked-refused : (l : Loaded) (q : Ask) → (T (ltb (l .lent) (q .jobs)) → ⊥) → 128 ≤ q .atoms → tableChecks01 l q ≡ refused 4 0
+unfolding tableChecks
+marked-refused l q room mark =
+    if-pass _ 3 0 _ room
+    ∙ if-hit _ 4 0 _ (not-T (between 1 64 (q .atoms)) (λ x. omega (arith, mark, in-range 1 64 (q .atoms) (λ y. T-not (between 1 64 (q .atoms)) y x) .1)))
+
 -- where today's reader takes a file with the mark and no release, 01's refused it with 4
 pub refused-before : (file : List ℕ) (room : ℕ) → readChecks file room ≡ accepted → (T (any (spoilt01 (recordsIn file)) (askIn (trailerIn file) .jobs)) → ⊥) → 128 ≤ askIn (trailerIn file) .atoms
     → readChecks01 file room ≡ refused 4 0
-unfolding readChecks saveChecks readChecks01 tableChecks
+unfolding readChecks saveChecks readChecks01
 refused-before file room taken clean mark =
     let a = if-zero (ltb 65536 (length file)) 1 0 _ (omega arith) taken in
     let b = if-zero (ltb (length file) 24) 2 0 _ (omega arith) (a .1) in
@@ -156,5 +164,4 @@ refused-before file room taken clean mark =
     ∙ if-pass _ 2 0 _ (b .0)
     ∙ if-pass _ 2 0 _ (c .0)
     ∙ if-pass _ 2 0 _ clean
-    ∙ if-pass _ 3 0 _ (e .0)
-    ∙ if-hit _ 4 0 _ (not-T (between 1 64 (askIn (trailerIn file) .atoms)) (λ x. omega (arith, mark, in-range 1 64 (askIn (trailerIn file) .atoms) (λ y. T-not (between 1 64 (askIn (trailerIn file) .atoms)) y x) .1)))
+    ∙ marked-refused (table01 file room) (askIn (trailerIn file)) (e .0) mark

@@ -50,7 +50,7 @@ problem01 l q = record {
   goals = problem l q .goals;
 }
 
--- the checks of the table: check 20 takes every job without a release
+-- the checks of a table before there was a mark: check 20 takes every job without a release
 abbrev pub tableChecks01 : Loaded → Ask → Verdict
 tableChecks01 l q = refuseIf (ltb (l .lent) (q .jobs)) 3 0 (tableChecks (problem01 l q) (boundCheck (q .bound) accepted))
 
