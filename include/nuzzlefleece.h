@@ -8,8 +8,9 @@
  *  - memory that a call may fill overlaps no other memory lent to it, and nothing else changes lent memory meanwhile.
  * A call keeps nothing afterwards: no heap, no global state, no threads. 2 MiB of stack serve every input.
  *
- * On success number and place are 0. A refusal gives its number and a place; lent memory is then unchanged, and the value
- * is 0 unless a comment says otherwise. After success lent memory that the answer does not fill is unchanged.
+ * On success number, second number and place are 0. A refusal gives its number and a place, and 12 gives a fact as second number, which
+ * is 0 in all others; lent memory is then unchanged, and the value is 0 unless a comment says otherwise. After success lent memory that
+ * the answer does not fill is unchanged.
  */
 #ifndef NUZZLEFLEECE_H
 #define NUZZLEFLEECE_H
@@ -21,9 +22,9 @@
 extern "C" {
 #endif
 
-/* The version that this header describes, 10,000 times the first number, 100 times the second, and the third: 1.2.0.
+/* The version that this header describes, 10,000 times the first number, 100 times the second, and the third: 1.3.0.
  * nuzzlefleece_version() returns that of the library linked; where the two differ, header and library are not of one build. */
-#define NUZZLEFLEECE_VERSION 10200
+#define NUZZLEFLEECE_VERSION 10300
 
 /* Sizes and limits. A fact is a number below the atom count; a word of facts has fact 0 in its lowest bit. */
 enum {
@@ -44,12 +45,21 @@ enum {
     NUZZLEFLEECE_SUPPORTED_BY_START = 254,
     NUZZLEFLEECE_NO_CONDITION = 255,
     NUZZLEFLEECE_PAIRS_BYTES = 552,     /* lent for binding pairs: at most 276, two bytes each */
-    NUZZLEFLEECE_PAGE_BYTES = 8192      /* lent for the text of a page */
+    NUZZLEFLEECE_PAGE_BYTES = 8192,     /* lent for the text of a page */
+    NUZZLEFLEECE_NO_FACT = 64           /* the fact of two jobs that do not clash */
+};
+
+/* Why two jobs clash. */
+enum {
+    NUZZLEFLEECE_CLASH_NONE = 0,
+    NUZZLEFLEECE_CLASH_CONDITION = 1,   /* one deletes a condition of the other */
+    NUZZLEFLEECE_CLASH_ADDITION = 2     /* no condition, but one deletes an addition of the other */
 };
 
 /* Refusals, checked in the order of their numbers, but 20 between 6 and 7, and 21 between 11 and 12.
  * All that take or write a job table check 3 to 8 and 20, and 9 where there is a bound.
- * The place is 0 where the comment names none. A job is named by its number in the table, a fact by its own, a pair by its number in the list asked. */
+ * The place, and the second number, is 0 where the comment names none. A job is named by its number in the table, a fact by its own, a
+ * pair by its number in the list asked. */
 enum {
     NUZZLEFLEECE_DONE = 0,
     NUZZLEFLEECE_FILE_TOO_LONG = 1,      /* the file, or the file after appending, has over 65,536 bytes */
@@ -63,7 +73,8 @@ enum {
     NUZZLEFLEECE_BOUND_WRONG = 9,        /* over 2,880 */
     NUZZLEFLEECE_NO_PLAN = 10,           /* there is no valid plan within the bound */
     NUZZLEFLEECE_ENDS_TOO_LATE = 11,     /* offered plan: a job ends after the bound; place: lowest job */
-    NUZZLEFLEECE_OVERLAP = 12,           /* offered plan: interfering jobs overlap or, under rule 2, are less than a quarter hour apart; place: lower job of the first pair */
+    NUZZLEFLEECE_OVERLAP = 12,           /* offered plan: interfering jobs overlap or, under rule 2, are less than a quarter hour apart;
+                                          * place: lower job of the first pair; second number: the fact of their clash */
     NUZZLEFLEECE_CONDITION_MISSING = 13, /* offered plan: at a start, or under rule 2 a quarter hour before it; place: lowest job */
     NUZZLEFLEECE_GOAL_MISSING = 14,      /* offered plan; place: lowest fact */
     NUZZLEFLEECE_PAIRS_WRONG = 15,       /* settling; place: 601 the set names no such job, 600 over 600 pairs, else the first pair with a job outside the set */
@@ -74,7 +85,7 @@ enum {
     NUZZLEFLEECE_BEFORE_RELEASE = 21     /* offered plan: a job starts before its release; checked after 11 and before 12; place: lowest job */
 };
 
-/* What a refusal says, in words; the place is said by the comments above. */
+/* What a refusal says, in words; the place and the second number are said by the comments above. */
 static inline const char *nuzzlefleece_words(unsigned number) {
     static const char *const words[] = {
         "done",
@@ -128,9 +139,16 @@ typedef struct nuzzlefleece_ask {
 /* What a call says. */
 typedef struct nuzzlefleece_answer {
     uint8_t number; /* NUZZLEFLEECE_DONE or a refusal */
+    uint8_t second; /* the fact of the clash with NUZZLEFLEECE_OVERLAP, where it may be 0 too; else 0 */
     uint16_t place; /* where the refusal was found */
     uint32_t value; /* the number returned; 0 where a call returns none */
 } nuzzlefleece_answer;
+
+/* Why two jobs clash, and over which fact. */
+typedef struct nuzzlefleece_clash {
+    uint8_t kind; /* NUZZLEFLEECE_CLASH_NONE, NUZZLEFLEECE_CLASH_CONDITION or NUZZLEFLEECE_CLASH_ADDITION */
+    uint8_t fact; /* the lowest of that kind; NUZZLEFLEECE_NO_FACT for none */
+} nuzzlefleece_clash;
 
 /* What a save is made of beside the records. */
 typedef struct nuzzlefleece_save {
@@ -153,23 +171,35 @@ typedef struct nuzzlefleece_reading {
 /* The facts from a reading; on refusal they are as given. */
 typedef struct nuzzlefleece_opening {
     uint8_t number;
+    uint8_t second; /* always 0: none of its refusals is 12 */
     uint16_t place;
     uint64_t facts;
 } nuzzlefleece_opening;
 
 /* The library has these layouts; another compiler's would stop here. */
 typedef char nuzzlefleece_layouts[sizeof(nuzzlefleece_action) == 32 && offsetof(nuzzlefleece_action, release) == 26
-    && sizeof(nuzzlefleece_ask) == 56 && sizeof(nuzzlefleece_answer) == 8
-    && sizeof(nuzzlefleece_save) == 64 && sizeof(nuzzlefleece_read_answer) == 64 && sizeof(nuzzlefleece_opening) == 16 ? 1 : -1];
+    && sizeof(nuzzlefleece_ask) == 56 && sizeof(nuzzlefleece_answer) == 8 && offsetof(nuzzlefleece_answer, second) == 1
+    && offsetof(nuzzlefleece_answer, place) == 2 && sizeof(nuzzlefleece_clash) == 2 && sizeof(nuzzlefleece_save) == 64
+    && sizeof(nuzzlefleece_read_answer) == 64 && sizeof(nuzzlefleece_opening) == 16 && offsetof(nuzzlefleece_opening, second) == 1
+    && offsetof(nuzzlefleece_opening, place) == 2 ? 1 : -1];
 
 /* The version of the library. */
 uint32_t nuzzlefleece_version(void);
 
 /*
+ * Why two different jobs clash, each by its record: the lowest fact that one of them deletes and the other has among its conditions; if
+ * there is none, the lowest that one deletes and the other adds; else none. Two jobs of a table interfere exactly where this is not none;
+ * a job does not interfere with itself, and the same record given twice stands for two jobs that are alike. All 64 facts are looked at,
+ * the times and the reserved bytes are not. Any two records get an answer; there is no refusal.
+ */
+nuzzlefleece_clash nuzzlefleece_why_clash(nuzzlefleece_action one, nuzzlefleece_action other);
+
+/*
  * Checks an offered plan, one start a job, NUZZLEFLEECE_OUT for a job that is out.
  * Done exactly when the plan is valid; a valid plan starts no job before its release. Under rule 2 it also keeps interfering jobs a
  * quarter hour apart, and a finish shows its facts to starts a quarter hour later, to the goals at once.
- * Refusals 3 to 9 and 20, then 11 to 14 and 21.
+ * Refusals 3 to 9 and 20, then 11 to 14 and 21. With 12 the place is the lower job of the first pair that is too near, by lower job and
+ * then by higher, and the second number is the fact of nuzzlefleece_why_clash for this pair.
  */
 nuzzlefleece_answer nuzzlefleece_check_plan(const nuzzlefleece_action *records, size_t lent, nuzzlefleece_ask ask,
     const uint16_t *starts, size_t starts_lent);
@@ -193,7 +223,7 @@ nuzzlefleece_answer nuzzlefleece_least_bound(const nuzzlefleece_action *records,
  * Fills 64 bytes a job and 64 for End behind the last job, by fact: the job that supports this condition,
  * NUZZLEFLEECE_SUPPORTED_BY_START, or NUZZLEFLEECE_NO_CONDITION where it is no condition or the job is out. If several fit,
  * Start is named, else the lowest job; under rule 2 a job that touches does not fit, save for End. Refusals 3 to 9 and 20, then
- * 11 to 14 and 21: only a valid plan has supports.
+ * 11 to 14 and 21, with the second number of nuzzlefleece_check_plan: only a valid plan has supports.
  */
 nuzzlefleece_answer nuzzlefleece_supports(const nuzzlefleece_action *records, size_t lent, nuzzlefleece_ask ask,
     const uint16_t *starts, size_t starts_lent, uint8_t *supports, size_t supports_lent);
@@ -203,7 +233,7 @@ nuzzlefleece_answer nuzzlefleece_supports(const nuzzlefleece_action *records, si
  * which the first is the named support of a condition of the second. The value is the count, at most 276; 552 bytes are
  * to be lent. If the plan's jobs start and finish at other moments and each first job still finishes before its second starts,
  * every job finds its conditions and the goals hold at the end; releases and the rule play no part in that.
- * Refusals 3 to 9 and 20, then 11 to 14 and 21.
+ * Refusals 3 to 9 and 20, then 11 to 14 and 21, with the second number of nuzzlefleece_check_plan.
  */
 nuzzlefleece_answer nuzzlefleece_binding_pairs(const nuzzlefleece_action *records, size_t lent, nuzzlefleece_ask ask,
     const uint16_t *starts, size_t starts_lent, uint8_t *pairs, size_t pairs_lent);

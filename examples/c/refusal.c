@@ -6,6 +6,7 @@
 #define FACT(n) ((uint64_t)1 << (n))
 
 static const char *const names[] = {"unpack", "drench", "warm", "wash"};
+static const char *const facts[] = {"packed", "unpacked", "drenched", "warm", "washed"};
 
 static const nuzzlefleece_action jobs[] = {
     {.conditions = FACT(0), .additions = FACT(1), .deletions = FACT(0), .duration = 4},
@@ -14,11 +15,11 @@ static const nuzzlefleece_action jobs[] = {
     {.conditions = FACT(1), .additions = FACT(4), .deletions = FACT(2), .duration = 3},
 };
 
-/* The number and the place of a refusal in words. */
+/* The number and the place of a refusal in words, and the fact of an overlap. */
 static void explain(nuzzlefleece_answer answer) {
     switch (answer.number) {
     case NUZZLEFLEECE_OVERLAP:
-        printf("%s overlaps a job that it interferes with\n", names[answer.place]);
+        printf("%s overlaps a job that it interferes with, over %s\n", names[answer.place], facts[answer.second]);
         break;
     case NUZZLEFLEECE_CONDITION_MISSING:
         printf("%s lacks a condition at its start\n", names[answer.place]);

@@ -91,8 +91,14 @@ static void print_hex(const void *from, size_t count) {
     fwrite(text, 1, 2 * count, stdout);
 }
 
+/* What every answer begins with: number, second number and place. */
+static void print_refusal(uint8_t number, uint8_t second, uint16_t place) {
+    printf("%u %u %u ", (unsigned)number, (unsigned)second, (unsigned)place);
+}
+
 static void print_answer(nuzzlefleece_answer answer) {
-    printf("%u %u %lu", (unsigned)answer.number, (unsigned)answer.place, (unsigned long)answer.value);
+    print_refusal(answer.number, answer.second, answer.place);
+    printf("%lu", (unsigned long)answer.value);
 }
 
 /* The answer and a lent table after the call. */
@@ -144,8 +150,9 @@ static void answer_in_bytes(void) {
 static void answer_reader(void) {
     nuzzlefleece_read_answer read = nuzzlefleece_read_file(table, head[9], records, head[8]);
     nuzzlefleece_ask q = read.ask;
-    printf("%u %u %lu %lu %u %lu %u ", (unsigned)read.answer.number, (unsigned)read.answer.place, (unsigned long)q.opening,
-        (unsigned long)q.goals, (unsigned)q.bound, (unsigned long)q.jobs, (unsigned)q.atoms);
+    print_refusal(read.answer.number, read.answer.second, read.answer.place);
+    printf("%lu %lu %u %lu %u ", (unsigned long)q.opening, (unsigned long)q.goals, (unsigned)q.bound, (unsigned long)q.jobs,
+        (unsigned)q.atoms);
     for (size_t i = 0; i < head[8]; i++) {
         print_hex(&records[i], SAVED);
     }
@@ -165,11 +172,22 @@ static void answer_readings(void) {
     memcpy(&reading.temperature, &head[6], 8);
     memcpy(&reading.humidity, &head[12], 8);
     opening = nuzzlefleece_opening_facts(reading, table, head[9], levels, head[10], table + head[9] + 2 * head[10], head[11], head[7], head[3]);
-    printf("%u %u %lu", (unsigned)opening.number, (unsigned)opening.place, (unsigned long)opening.facts);
+    print_refusal(opening.number, opening.second, opening.place);
+    printf("%lu", (unsigned long)opening.facts);
+}
+
+static void answer_clash(void) {
+    nuzzlefleece_clash clash = nuzzlefleece_why_clash(records[0], records[1]);
+    printf("%u %u", (unsigned)clash.kind, (unsigned)clash.fact);
+}
+
+/* The kind of the call; 0, which there is not, for a clash without exactly two records. */
+static uint64_t kind(void) {
+    return head[0] == 11 && head[8] != 2 ? 0 : head[0];
 }
 
 static void answer_call(void) {
-    switch (head[0]) {
+    switch (kind()) {
     case 1:
         print_answer(nuzzlefleece_check_plan(records, head[8], ask(), halves(table, head[9] / 2), head[9] / 2));
         break;
@@ -187,6 +205,9 @@ static void answer_call(void) {
         break;
     case 10:
         answer_readings();
+        break;
+    case 11:
+        answer_clash();
         break;
     default:
         printf("unknown");

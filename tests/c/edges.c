@@ -1,6 +1,6 @@
 /*
- * Calls every function of the C library on the scope's example P3, with warm released later, under rule 2, with nothing lent and with
- * bad input, and holds each answer to the scope's numbers. Last line: 'N passed, M failed'; any failure gives status 1.
+ * Calls every function of the C library on the scope's example P3, with warm released later, under rule 2, on jobs that clash, with nothing
+ * lent and with bad input, and holds each answer to the scope's numbers. Last line: 'N passed, M failed'; any failure gives status 1.
  */
 #include <stdio.h>
 #include <string.h>
@@ -8,6 +8,7 @@
 #include "nuzzlefleece.h"
 
 #define FACT(n) ((uint64_t)1 << (n))
+#define ALL_FACTS (~(uint64_t)0)
 
 static int passed, failed;
 
@@ -43,13 +44,27 @@ static void expect(const char *what, int holds) {
     }
 }
 
-/* The answer has this number, place and value. */
-static void says(const char *what, nuzzlefleece_answer answer, unsigned number, unsigned place, unsigned value) {
-    int holds = answer.number == number && answer.place == place && answer.value == value;
+/* The answer has these numbers, and stands in its bytes as the header says. */
+static void says_all(const char *what, nuzzlefleece_answer answer, unsigned number, unsigned second, unsigned place, unsigned value) {
+    const uint8_t bytes[] = {(uint8_t)number, (uint8_t)second, (uint8_t)place, (uint8_t)(place >> 8), (uint8_t)value,
+        (uint8_t)(value >> 8), (uint8_t)(value >> 16), (uint8_t)(value >> 24)};
+    int holds = answer.number == number && answer.second == second && answer.place == place && answer.value == value
+        && memcmp(&answer, bytes, sizeof bytes) == 0;
     expect(what, holds);
     if (!holds) {
-        printf("edges: answered %u %u %u\n", (unsigned)answer.number, (unsigned)answer.place, (unsigned)answer.value);
+        printf("edges: answered %u %u %u %u\n", (unsigned)answer.number, (unsigned)answer.second, (unsigned)answer.place,
+            (unsigned)answer.value);
     }
+}
+
+/* The answer has this number, place and value, and no second number. */
+static void says(const char *what, nuzzlefleece_answer answer, unsigned number, unsigned place, unsigned value) {
+    says_all(what, answer, number, 0, place, value);
+}
+
+/* The plan is refused with 12 at this place, over this fact. */
+static void overlaps(const char *what, nuzzlefleece_answer answer, unsigned place, unsigned fact) {
+    says_all(what, answer, NUZZLEFLEECE_OVERLAP, fact, place, 0);
 }
 
 /* P3 and P4, and what is lent behind the answer stays as it was. */
@@ -64,7 +79,7 @@ static void answers_p3(void) {
     says("plan within", nuzzlefleece_plan_within(p3, 4, p3_ask, starts, 4), 0, 0, 0);
     expect("starts within 12", memcmp(starts, p3_starts, 8) == 0 && starts[4] == 257);
     says("check plan", nuzzlefleece_check_plan(p3, 4, p3_ask, starts, 4), 0, 0, 0);
-    says("drench at 6", nuzzlefleece_check_plan(p3, 4, p3_ask, moved, 4), NUZZLEFLEECE_OVERLAP, 1, 0);
+    overlaps("drench at 6", nuzzlefleece_check_plan(p3, 4, p3_ask, moved, 4), 1, 2);
     says("binding pairs", nuzzlefleece_binding_pairs(p3, 4, p3_ask, starts, 4, pairs, sizeof pairs), 0, 0, 4);
     expect("the pairs", memcmp(pairs, p3_pairs, 8) == 0 && pairs[8] == 9 && pairs[551] == 9);
     says("supports", nuzzlefleece_supports(p3, 4, p3_ask, starts, 4, supports, 320), 0, 0, 0);
@@ -196,8 +211,8 @@ static void refuses_touching(void) {
     static const uint16_t touching[] = {0, 8, 5, 5}, early[] = {0, 9, 4, 5};
     nuzzlefleece_ask ask = ruled_ask(13);
     says("a quarter hour apart", nuzzlefleece_check_plan(p3, 4, ask, ruled_starts, 4), 0, 0, 0);
-    says("drench touches wash", nuzzlefleece_check_plan(p3, 4, ask, touching, 4), NUZZLEFLEECE_OVERLAP, 1, 0);
-    says("the plan of rule 1", nuzzlefleece_check_plan(p3, 4, ask, p3_starts, 4), NUZZLEFLEECE_OVERLAP, 1, 0);
+    overlaps("drench touches wash", nuzzlefleece_check_plan(p3, 4, ask, touching, 4), 1, 2);
+    overlaps("the plan of rule 1", nuzzlefleece_check_plan(p3, 4, ask, p3_starts, 4), 1, 2);
     says("warm touches unpack", nuzzlefleece_check_plan(p3, 4, ask, early, 4), NUZZLEFLEECE_CONDITION_MISSING, 2, 0);
     says("no supports of it", nuzzlefleece_supports(p3, 4, ask, early, 4, out, 320), NUZZLEFLEECE_CONDITION_MISSING, 2, 0);
     says("supports under rule 2", nuzzlefleece_supports(p3, 4, ask, ruled_starts, 4, out, 320), 0, 0, 0);
@@ -228,6 +243,89 @@ static void keeps_the_rule_in_files(void) {
     says("64 atoms under rule 2", nuzzlefleece_read_file(file, sizeof file, back, 4).answer, 0, 0, 0);
 }
 
+/* The clash is of this kind, over this fact, and has these two bytes. */
+static void clashes(const char *what, nuzzlefleece_clash clash, unsigned kind, unsigned fact) {
+    const uint8_t bytes[] = {(uint8_t)kind, (uint8_t)fact};
+    expect(what, clash.kind == kind && clash.fact == fact && memcmp(&clash, bytes, sizeof bytes) == 0);
+}
+
+/* Two records in either order. */
+static void both_clash(const char *what, nuzzlefleece_action one, nuzzlefleece_action other, unsigned kind, unsigned fact) {
+    clashes(what, nuzzlefleece_why_clash(one, other), kind, fact);
+    clashes(what, nuzzlefleece_why_clash(other, one), kind, fact);
+}
+
+static nuzzlefleece_action of_facts(uint64_t conditions, uint64_t additions, uint64_t deletions) {
+    nuzzlefleece_action action = {.conditions = conditions, .additions = additions, .deletions = deletions, .duration = 1};
+    return action;
+}
+
+/* Why two jobs clash: a condition or else an addition, the lowest fact of it, whichever job deletes it. */
+static void answers_clashes(void) {
+    nuzzlefleece_action nothing = of_facts(0, 0, 0), everything = of_facts(ALL_FACTS, ALL_FACTS, ALL_FACTS);
+    nuzzlefleece_action last = of_facts(0, 0, FACT(63)), washes = of_facts(0, 0, FACT(3) | FACT(40));
+    both_clash("drench and wash", p3[1], p3[3], NUZZLEFLEECE_CLASH_ADDITION, 2);
+    both_clash("unpack and drench", p3[0], p3[1], NUZZLEFLEECE_CLASH_NONE, NUZZLEFLEECE_NO_FACT);
+    both_clash("unpack and one more", p3[0], p3[0], NUZZLEFLEECE_CLASH_CONDITION, 0);
+    both_clash("wash and one more", p3[3], p3[3], NUZZLEFLEECE_CLASH_NONE, NUZZLEFLEECE_NO_FACT);
+    both_clash("a record that adds what it deletes, twice", of_facts(0, 8, 8), of_facts(0, 8, 8), NUZZLEFLEECE_CLASH_ADDITION, 3);
+    both_clash("nothing twice", nothing, nothing, NUZZLEFLEECE_CLASH_NONE, NUZZLEFLEECE_NO_FACT);
+    both_clash("nothing and everything", nothing, everything, NUZZLEFLEECE_CLASH_NONE, NUZZLEFLEECE_NO_FACT);
+    both_clash("everything twice", everything, everything, NUZZLEFLEECE_CLASH_CONDITION, 0);
+    both_clash("the last fact and everything", last, everything, NUZZLEFLEECE_CLASH_CONDITION, 63);
+    both_clash("the last fact needed", last, of_facts(FACT(63), 0, 0), NUZZLEFLEECE_CLASH_CONDITION, 63);
+    both_clash("the last fact added", last, of_facts(0, FACT(63), 0), NUZZLEFLEECE_CLASH_ADDITION, 63);
+    both_clash("the last fact deleted by both", last, last, NUZZLEFLEECE_CLASH_NONE, NUZZLEFLEECE_NO_FACT);
+    both_clash("a condition above an addition", washes, of_facts(FACT(40), FACT(3), 0), NUZZLEFLEECE_CLASH_CONDITION, 40);
+    both_clash("conditions both ways", of_facts(FACT(9), 0, FACT(50)), of_facts(FACT(50), 0, FACT(9)), NUZZLEFLEECE_CLASH_CONDITION, 9);
+    both_clash("additions both ways", of_facts(0, FACT(50), FACT(9)), of_facts(0, FACT(9), FACT(50)), NUZZLEFLEECE_CLASH_ADDITION, 9);
+}
+
+/* Times and reserved bytes may be any. */
+static void looks_at_facts_alone(void) {
+    for (int byte = 0; byte < 256; byte += 51) {
+        nuzzlefleece_action one, other;
+        memset(&one, byte, sizeof one);
+        memset(&other, 255 - byte, sizeof other);
+        one.conditions = FACT(20);
+        one.additions = FACT(5);
+        one.deletions = FACT(30);
+        other.conditions = FACT(30) | FACT(21);
+        other.additions = FACT(6);
+        other.deletions = FACT(5) | FACT(21);
+        both_clash("whatever the times and the reserved bytes", one, other, NUZZLEFLEECE_CLASH_CONDITION, 30);
+        other.conditions = 0;
+        both_clash("the same without the condition", one, other, NUZZLEFLEECE_CLASH_ADDITION, 5);
+        one.additions = 0;
+        both_clash("the same without the addition", one, other, NUZZLEFLEECE_CLASH_NONE, NUZZLEFLEECE_NO_FACT);
+    }
+}
+
+/* Refusal 12 has the fact of the first pair that is too near, in all that take a plan, and fills nothing. */
+static void carries_the_fact(void) {
+    static const nuzzlefleece_action jobs[] = {
+        {.conditions = FACT(20), .deletions = FACT(50) | FACT(30) | FACT(5), .duration = 2},
+        {.additions = FACT(50), .duration = 2},
+        {.conditions = FACT(30), .additions = FACT(5), .deletions = FACT(20), .duration = 2},
+        {.additions = FACT(5), .duration = 2},
+    };
+    static uint8_t out[NUZZLEFLEECE_PAIRS_BYTES];
+    uint16_t starts[] = {0, 2, 1, 1};
+    nuzzlefleece_ask ask = {.jobs = 4, .atoms = 64, .bound = 9};
+    memset(out, 9, sizeof out);
+    overlaps("a condition of the second partner", nuzzlefleece_check_plan(jobs, 4, ask, starts, 4), 0, 20);
+    overlaps("no supports", nuzzlefleece_supports(jobs, 4, ask, starts, 4, out, 320), 0, 20);
+    overlaps("no binding pairs", nuzzlefleece_binding_pairs(jobs, 4, ask, starts, 4, out, sizeof out), 0, 20);
+    expect("nothing filled", out[0] == 9 && out[319] == 9 && out[551] == 9);
+    ask.atoms += NUZZLEFLEECE_RULE_2;
+    overlaps("the first partner touches", nuzzlefleece_check_plan(jobs, 4, ask, starts, 4), 0, 50);
+    ask.atoms -= NUZZLEFLEECE_RULE_2;
+    starts[2] = NUZZLEFLEECE_OUT;
+    overlaps("an addition of the last partner", nuzzlefleece_check_plan(jobs, 4, ask, starts, 4), 0, 5);
+    ask.bound = 3;
+    says("ends too late", nuzzlefleece_check_plan(jobs, 4, ask, starts, 4), NUZZLEFLEECE_ENDS_TOO_LATE, 1, 0);
+}
+
 /* A save is read back, and its page is bench-plan's text. */
 static void answers_files(void) {
     static uint8_t file[200], text[NUZZLEFLEECE_PAGE_BYTES];
@@ -251,9 +349,9 @@ static void answers_files(void) {
     says("a full file", nuzzlefleece_write_file(p3, 4, save, file, sizeof file), NUZZLEFLEECE_FILE_TOO_LONG, 0, 0);
 }
 
-/* The facts from a reading are held to the number, the place and the facts. */
+/* The facts from a reading are held to the number, the place and the facts; there is no second number. */
 static void opens(const char *what, nuzzlefleece_opening o, unsigned number, unsigned place, uint64_t facts) {
-    expect(what, o.number == number && o.place == place && o.facts == facts);
+    expect(what, o.number == number && o.second == 0 && o.place == place && o.facts == facts);
 }
 
 static void answers_readings(void) {
@@ -346,6 +444,9 @@ int main(void) {
     answers_rule_2();
     refuses_touching();
     keeps_the_rule_in_files();
+    answers_clashes();
+    looks_at_facts_alone();
+    carries_the_fact();
     answers_files();
     answers_readings();
     takes_null();

@@ -4,7 +4,7 @@ from typing import NamedTuple
 
 KINDS = {
     1: 'check plan', 2: 'plan within bound', 3: 'least bound', 4: 'supports', 5: 'binding pairs',
-    6: 'estimates', 7: 'settle', 8: 'read file', 9: 'write file', 10: 'opening facts',
+    6: 'estimates', 7: 'settle', 8: 'read file', 9: 'write file', 10: 'opening facts', 11: 'why jobs clash',
 }
 WORDS = 16
 RECORD = struct.Struct('<QQQHH4s')
@@ -49,6 +49,11 @@ class Call:
             raise ValueError(f'a call that does not fit: {head}')
 
 
+def clash_call(one, other):
+    """Why two jobs clash, each by its record."""
+    return Call([11] + [0] * 7 + [2], [one, other])
+
+
 def marked(atoms, gap):
     """The atom count as a call or a file has it: with the mark of the rule, whose gap is 0 or 1."""
     return atoms + RULE_2 * gap
@@ -64,7 +69,7 @@ def atom_byte(call):
     """The atom count of a call, or of the file that it reads, with its mark; None where there is none."""
     if call.head[0] == 8:
         return call.table[ATOMS_AT - TRAILER] if len(call.table) >= TRAILER else None
-    return None if call.head[0] == 10 else call.head[2]
+    return None if call.head[0] in (10, 11) else call.head[2]
 
 
 def with_atom_byte(call, byte):
@@ -163,6 +168,8 @@ def call_text(call):
         lines = readings_text(call)
     elif kind == 8:
         lines = [f'{head[8]} records lent', bytes_text('file', call.table)]
+    elif kind == 11:
+        lines = [job_text(job) for job in call.records]
     else:
         lines = table_text(call) + given_text(call)
     if kind in (2, 3, 4, 5, 6, 7):

@@ -11,6 +11,14 @@ PRODUCT = os.environ.get('PRODUCT') or f'{ROOT}/tools/run-program {ROOT}/target/
 SHOWN = 300
 
 
+def refused(number, place=0, second=0):
+    """What a refusal says, in the order in which an answer begins; refusal 12 alone has a second number."""
+    return number, second, place
+
+
+DONE = refused(0)
+
+
 def hold(name, stream):
     """Runs the calls through PRODUCT (the C library's own program) and compares line by line; ends with status 1 at the first that differs."""
     given = b''.join(call.pack() for call, _ in stream)

@@ -9,6 +9,7 @@ import sys
 from dataclasses import replace
 
 sys.dont_write_bytecode = True
+import clashes
 import files
 import gaps
 import readings
@@ -22,6 +23,7 @@ from tables import (LAST_BOUND, LONGEST, NAMED, OUT, Problem, chain, clashing, d
 SEED, DRAWN = 20040725, 7000
 LATE_SEED, LATE_DRAWN = 20050725, 800
 GAP_SEED, GAP_DRAWN = 20060725, 600
+CLASH_SEED = 20070725
 
 
 def planned_table(dice, crates):
@@ -292,7 +294,7 @@ def drawn(dice, count, crates):
         yield dice.choices(families, weights)[0](dice, crates)
 
 
-def mixed(seed, walks, count, crates):
+def mixed(seed, walks, count=0, crates=ON_TIME):
     """Every walk, then drawn calls, in a mixed order."""
     dice = random.Random(seed)
     calls = [call for walk in walks for call in walk(dice)]
@@ -302,17 +304,20 @@ def mixed(seed, walks, count, crates):
 
 
 def corpus():
-    """The fixed calls: those that stood before there were releases, unchanged, behind them those with releases, and
-    last those under rule 2."""
+    """The fixed calls: those that stood before there were releases, unchanged, behind them those with releases, those
+    under rule 2, and last those on clashes."""
     return (mixed(SEED, WALKS, DRAWN, ON_TIME) + mixed(LATE_SEED, releases.WALKS, LATE_DRAWN, LATE)
-            + mixed(GAP_SEED, gaps.WALKS, GAP_DRAWN, HYGIENE))
+            + mixed(GAP_SEED, gaps.WALKS, GAP_DRAWN, HYGIENE) + mixed(CLASH_SEED, clashes.WALKS))
 
 
 def more(count, seed):
-    """Half of the calls under rule 2, half of all on tables with releases."""
+    """A tenth of the calls on clashes; of the others half under rule 2, half of all on tables with releases."""
     dice = random.Random(seed)
     for _ in range(count):
-        yield from drawn(dice, 1, dice.choice((ON_TIME, LATE, HYGIENE, HYGIENE)))
+        if dice.random() < 0.1:
+            yield dice.choice(clashes.DRAWN)(dice)
+        else:
+            yield from drawn(dice, 1, dice.choice((ON_TIME, LATE, HYGIENE, HYGIENE)))
 
 
 def main(words):

@@ -15,7 +15,8 @@ use Rattle.facts.specs.Least.{least, any}
 use Rattle.facts.proofs.Bools.{and-l, and-r, and-of, or-cases, or-l, or-r, same, eqb-of, below-suc, passes}
 use Rattle.facts.proofs.Least.{least-is, any-of, least-hit, any-none, least-same, any-same}
 use Rattle.rules.specs.Table.{Problem}
-use Rattle.rules.specs.Plans.{Plan, starts, inPlan, interfere}
+use Rattle.rules.specs.Clashes.{interfere}
+use Rattle.rules.specs.Plans.{Plan, starts, inPlan}
 use Rattle.rules.specs.Supports.{Consumer, job, end, startFits, jobFits, name, named, byteIf, byteOf, wants, consumer, whoseRow, task, goal}
 use Rattle.rules.specs.Pairs.{isJob, feeds, binds}
 use Rattle.tables.specs.declared.Loaded.{Loaded}

@@ -11,10 +11,11 @@ use lib.ListN.{length, getD, take, replicate}
 use lib.Seq.{getD-take}
 use Rattle.facts.specs.Facts.{has, after}
 use Rattle.facts.specs.Least.{least, further, any}
-use Rattle.refusals.specs.Refusals.{Verdict, accepted, refuseIf, refuseAt}
+use Rattle.refusals.specs.Refusals.{Verdict, accepted, refuseIf, refuseAt, refuseFor}
 use Rattle.rules.specs.Table.{between, strays, jobStrays, undoes, jobChecks, tableChecks, boundCheck}
-use Rattle.rules.specs.Plans.{starts, inPlan, spoils, interfere, ends, afterIf, finishes, holds}
-use Rattle.rules.specs.Verdicts.{late, early, overlap, clashes, unready, missing, planChecks}
+use Rattle.rules.specs.Clashes.{spoils, clashOf, interfere}
+use Rattle.rules.specs.Plans.{starts, inPlan, ends, afterIf, finishes, holds}
+use Rattle.rules.specs.Verdicts.{late, early, overlap, clashes, clashFact, unready, missing, planChecks}
 use Rattle.rules.specs.Supports.{blocks, startFits, jobFits, name, named}
 use Rattle.rules.specs.Pairs.{isJob, feeds, binds, joined, pairIf, pairBytes}
 use Rattle.tables.specs.declared.Action.{Action}
@@ -60,11 +61,11 @@ abbrev pub plan3 : List ℕ
 plan3 = 0 ∷ 7 ∷ 4 ∷ 4 ∷ []
 
 accepts3 : offered false jobsU (askU 28 12) plan3 accepted ≡ accepted
-unfolding boundCheck tableChecks jobChecks between strays jobStrays undoes planChecks refuseAt refuseIf late early clashes overlap unready missing interfere spoils holds finishes afterIf ends inPlan after has any least further unmarked
+unfolding boundCheck tableChecks jobChecks between strays jobStrays undoes planChecks refuseAt refuseFor refuseIf late early clashes clashFact overlap unready missing interfere clashOf spoils holds finishes afterIf ends inPlan after has any least further unmarked
 accepts3 = refl
 
 pairs3 : pairBytes (problem jobsU (askU 28 12)) (starts plan3) ≡ 0 ∷ 1 ∷ 0 ∷ 2 ∷ 0 ∷ 3 ∷ 3 ∷ 1 ∷ []
-unfolding pairBytes joined pairIf binds feeds isJob named name startFits jobFits blocks interfere spoils inPlan has any least further unmarked
+unfolding pairBytes joined pairIf binds feeds isJob named name startFits jobFits blocks interfere clashOf spoils inPlan has any least further unmarked
 pairs3 = refl
 
 -- a made-up count breaks the promise
@@ -76,11 +77,11 @@ abbrev pub plan14 : List ℕ
 plan14 = 0 ∷ 4 ∷ 6 ∷ 65535 ∷ []
 
 accepts14 : offered false jobsU (askU 12 14) plan14 accepted ≡ accepted
-unfolding boundCheck tableChecks jobChecks between strays jobStrays undoes planChecks refuseAt refuseIf late early clashes overlap unready missing interfere spoils holds finishes afterIf ends inPlan after has any least further unmarked
+unfolding boundCheck tableChecks jobChecks between strays jobStrays undoes planChecks refuseAt refuseFor refuseIf late early clashes clashFact overlap unready missing interfere clashOf spoils holds finishes afterIf ends inPlan after has any least further unmarked
 accepts14 = refl
 
 pairs14 : pairBytes (problem jobsU (askU 12 14)) (starts plan14) ≡ 0 ∷ 1 ∷ 0 ∷ 2 ∷ []
-unfolding pairBytes joined pairIf binds feeds isJob named name startFits jobFits blocks interfere spoils inPlan has any least further unmarked
+unfolding pairBytes joined pairIf binds feeds isJob named name startFits jobFits blocks interfere clashOf spoils inPlan has any least further unmarked
 pairs14 = refl
 
 -- the three pairs of that plan in plan order break the promise, by their count

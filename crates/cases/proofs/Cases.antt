@@ -4,10 +4,11 @@ use mathlib.Core.Path.{refl}
 use native.Mathlib.Omega.{arith}
 use Rattle.facts.specs.Facts.{has, after}
 use Rattle.facts.specs.Least.{least, further, any}
-use Rattle.refusals.specs.Refusals.{refuseIf, refuseAt}
+use Rattle.refusals.specs.Refusals.{refuseIf, refuseAt, refuseFor}
 use Rattle.rules.specs.Table.{between, strays, jobStrays, undoes, jobChecks, tableChecks, boundCheck}
-use Rattle.rules.specs.Plans.{inPlan, spoils, interfere, ends, afterIf, finishes, holds}
-use Rattle.rules.specs.Verdicts.{late, early, overlap, clashes, unready, missing, planChecks}
+use Rattle.rules.specs.Clashes.{spoils, clashOf, interfere}
+use Rattle.rules.specs.Plans.{inPlan, ends, afterIf, finishes, holds}
+use Rattle.rules.specs.Verdicts.{late, early, overlap, clashes, clashFact, unready, missing, planChecks}
 use Rattle.rules.specs.Supports.{blocks, startFits, jobFits, name, named}
 use Rattle.rules.specs.Pairs.{isJob as supporting, feeds, binds, joined, pairIf, pairBytes}
 use Rattle.rules.specs.Estimates.{plus, cheapest, cost, condition, dearest}
@@ -27,7 +28,7 @@ _also_ : {A B : Type 0} → A → B → A × B
 a also b = (a, b)
 
 pub all-hold : AllHold cases
-unfolding _also_ cases unmarked blocks startFits jobFits name named supporting feeds binds joined pairIf pairBytes facts has after least further any refuseIf refuseAt between strays jobStrays undoes jobChecks tableChecks boundCheck inPlan spoils interfere ends afterIf finishes holds late early overlap clashes unready missing planChecks inRange tenths float some every addIf collect include dueIf exclude ahead behind isJob atLeast chain broken wants guards step refute hopeless sooner dueBefore noneBefore solves plus cheapest cost condition dearest
+unfolding _also_ cases unmarked blocks startFits jobFits name named supporting feeds binds joined pairIf pairBytes facts has after least further any refuseIf refuseAt refuseFor between strays jobStrays undoes jobChecks tableChecks boundCheck inPlan spoils clashOf interfere ends afterIf finishes holds late early overlap clashes clashFact unready missing planChecks inRange tenths float some every addIf collect include dueIf exclude ahead behind isJob atLeast chain broken wants guards step refute hopeless sooner dueBefore noneBefore solves plus cheapest cost condition dearest
 all-hold =
     -- P1
     plans-ok refl refl tt
@@ -76,4 +77,10 @@ all-hold =
     also refuses-ok (omega arith) refl
     also refuses-ok (omega arith) refl
     also takes-ok refl
+    -- Three
+    also refl
+    also refl
+    also refl
+    also refl
+    also refl
     also tt

@@ -14,7 +14,8 @@ use Rattle.facts.proofs.Least.{any-of}
 use Rattle.refusals.specs.Refusals.{Verdict, accepted, refused}
 use Rattle.rules.specs.Table.{Problem, tableChecks, boundCheck}
 use Rattle.rules.specs.Premises.{InOrder}
-use Rattle.rules.specs.Plans.{Plan, inPlan, finish, interfere, Valid}
+use Rattle.rules.specs.Clashes.{interfere}
+use Rattle.rules.specs.Plans.{Plan, inPlan, finish, Valid}
 use Rattle.rules.specs.Verdicts.{planChecks}
 use Rattle.rules.specs.Estimates.{dearest, Estimates}
 use Rattle.rules.specs.Order.{First, LeastBound, NoPlan, Planned, Bounded}
@@ -47,7 +48,7 @@ table-goes-on : (P : Problem) (bound : ℕ) → tableAndBound P bound accepted �
 table-goes-on P bound t = go (table-checks P)
   where
     go : Checks (tableChecks P) → (next : Verdict) → tableChecks P next ≡ next
-    go (inl (v, ne, e)) = absurd (ne (ap (λ (w : Verdict). w .number) (sym (e _) ∙ t)))
+    go (inl (v, k, e)) = absurd (k .0 (ap (λ (w : Verdict). w .number) (sym (e _) ∙ t)))
     go (inr e) = e
 
 module _ (P : Problem) (bound : ℕ) (taken : tableAndBound P bound accepted ≡ accepted) where

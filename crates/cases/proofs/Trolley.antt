@@ -9,7 +9,7 @@ use Rattle.facts.specs.Facts.{has}
 use Rattle.facts.specs.Least.{least, any}
 use Rattle.facts.proofs.Bools.{eqb-of, eqb-not, not-eqb}
 use Rattle.facts.proofs.Sets.{has-pow}
-use Rattle.refusals.specs.Refusals.{refuseIf, refuseAt}
+use Rattle.refusals.specs.Refusals.{refuseIf, refuseAt, refuseFor}
 use Rattle.rules.specs.Table.{tableChecks, jobChecks, between, jobStrays, strays, undoes}
 use Rattle.rules.specs.Premises.{InOrder, adds, deletes}
 use Rattle.rules.specs.Plans.{Plan, holds, Valid}
@@ -62,7 +62,7 @@ pub houses-exclude : Reachable trolley 0 1 → ⊥
 houses-exclude h = h others closed
 
 ordered : InOrder trolley
-unfolding tableChecks jobChecks between jobStrays strays undoes refuseIf refuseAt any least has facts unmarked
+unfolding tableChecks jobChecks between jobStrays strays undoes refuseIf refuseAt refuseFor any least has facts unmarked
 ordered = in-order trolley refl
 
 -- so no state of a valid plan has it in both

@@ -6,7 +6,7 @@ use lib.IntN.{pos, negℤ}
 use Rattle.rules.specs.Table.{Problem}
 use Rattle.tenths.specs.Rounding.{float}
 use Rattle.cases.specs.Jobs.{action, problemOf, lasting, landing}
-use Rattle.cases.specs.Claims.{Claim, plans, noPlan, least, touching, offered, binding, tenths, estimates, takes, refuses}
+use Rattle.cases.specs.Claims.{Claim, plans, noPlan, least, touching, offered, clashing, binding, tenths, estimates, takes, refuses}
 use Rattle.tables.specs.declared.Action.{Action}
 
 -- ── jobs U ──
@@ -69,6 +69,14 @@ pick = action (0 ∷ 2 ∷ []) (3 ∷ []) [] 1
 abbrev pub trolley : Problem
 trolley = problemOf (go ∷ back ∷ drop ∷ pick ∷ []) 4 (0 ∷ []) (1 ∷ 3 ∷ [])
 
+-- a job that needs fact 3 and adds fact 0, and one that deletes both
+abbrev pub both : Problem
+both = problemOf (action (3 ∷ []) (0 ∷ []) [] 1 ∷ action [] [] (0 ∷ 3 ∷ []) 1 ∷ []) 4 [] []
+
+-- two jobs with the record of go, which deletes its own condition
+abbrev pub twice : Problem
+twice = problemOf (go ∷ go ∷ []) 4 [] []
+
 -- a job that is out
 abbrev pub out : ℕ
 out = 65535
@@ -86,8 +94,8 @@ cases =
     ∷ least (U (2 ∷ 3 ∷ 4 ∷ [])) 12 (0 ∷ 7 ∷ 4 ∷ 4 ∷ [])
     -- P3: drench touches wash, and the plan is valid
     ∷ touching (U (2 ∷ 3 ∷ 4 ∷ [])) 12 (0 ∷ 7 ∷ 4 ∷ 4 ∷ []) 3 1
-    -- P4: that plan with drench at 6: refusal 12, place 1
-    ∷ offered (U (2 ∷ 3 ∷ 4 ∷ [])) 12 (0 ∷ 6 ∷ 4 ∷ 4 ∷ []) 12 1
+    -- P4: that plan with drench at 6: refusal 12, place 1; Three: the fact is 2
+    ∷ offered (U (2 ∷ 3 ∷ 4 ∷ [])) 12 (0 ∷ 6 ∷ 4 ∷ 4 ∷ []) 12 2 1
     -- P5: goals {0}, bound 0: all out
     ∷ plans (U (0 ∷ [])) 0 (out ∷ out ∷ out ∷ out ∷ [])
     -- P6: goals {0, 1}, bound 2,880: refusal 10
@@ -121,7 +129,7 @@ cases =
     -- Five: the estimates are 0, 4, 6, 4
     ∷ estimates (warmFrom 6) (0 ∷ 4 ∷ 6 ∷ 4 ∷ [])
     -- Five: that plan with warm at 5: refusal 21, place 2
-    ∷ offered (warmFrom 6) 14 (0 ∷ 7 ∷ 5 ∷ 4 ∷ []) 21 2
+    ∷ offered (warmFrom 6) 14 (0 ∷ 7 ∷ 5 ∷ 4 ∷ []) 21 0 2
     -- Five: release 2,880 is taken
     ∷ takes (warmFrom 2880) 12
     -- Five: 2,881 is refused with 20 and the job's place
@@ -135,11 +143,20 @@ cases =
     ∷ binding (gapped (2 ∷ 3 ∷ 4 ∷ [])) (0 ∷ 9 ∷ 5 ∷ 5 ∷ []) (0 ∷ 1 ∷ 0 ∷ 2 ∷ 0 ∷ 3 ∷ 3 ∷ 1 ∷ [])
     -- Nine: the estimates are 0, 5, 5, 5
     ∷ estimates (gapped (2 ∷ 3 ∷ 4 ∷ [])) (0 ∷ 5 ∷ 5 ∷ 5 ∷ [])
-    -- Nine: that plan with drench at 8, where it touches wash: refusal 12, place 1
-    ∷ offered (gapped (2 ∷ 3 ∷ 4 ∷ [])) 13 (0 ∷ 8 ∷ 5 ∷ 5 ∷ []) 12 1
+    -- Nine: that plan with drench at 8, where it touches wash: refusal 12, place 1, and the fact of P4
+    ∷ offered (gapped (2 ∷ 3 ∷ 4 ∷ [])) 13 (0 ∷ 8 ∷ 5 ∷ 5 ∷ []) 12 2 1
     -- Nine: the atom counts 128, 193 and 255 are refused with 4, 192 is 64 facts by rule 2
     ∷ refuses (counting 128 []) 12 4 0
     ∷ refuses (counting 193 []) 12 4 0
     ∷ refuses (counting 255 []) 12 4 0
     ∷ takes (counting 192 []) 12
+    -- Three: wash deletes fact 2, which drench adds; the same the other way round
+    ∷ clashing (U []) 1 3 2 2
+    ∷ clashing (U []) 3 1 2 2
+    -- Three: unpack and warm do not clash: kind 0, fact 64
+    ∷ clashing (U []) 0 2 0 64
+    -- Three: a condition comes first, though the fact of the addition is lower
+    ∷ clashing both 0 1 1 3
+    -- Three: two jobs with one record that deletes its own condition clash over it
+    ∷ clashing twice 0 1 1 0
     ∷ []

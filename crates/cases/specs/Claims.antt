@@ -7,9 +7,10 @@ use Prim.Native.Nat.{ℕ, _≤_, _<_}
 use lib.Dec.{T}
 use lib.Ieee.{Float}
 use lib.IntN.{ℤ}
-use Rattle.refusals.specs.Refusals.{Verdict, accepted, refused}
+use Rattle.refusals.specs.Refusals.{Verdict, accepted, refused, refusedFor}
 use Rattle.rules.specs.Table.{Problem, tableChecks, boundCheck}
-use Rattle.rules.specs.Plans.{Plan, starts, In, finish, interfere, Valid}
+use Rattle.rules.specs.Clashes.{clashIn, numbers, interfere}
+use Rattle.rules.specs.Plans.{Plan, starts, In, finish, Valid}
 use Rattle.rules.specs.Verdicts.{planChecks}
 use Rattle.rules.specs.Pairs.{pairBytes}
 use Rattle.rules.specs.Estimates.{Estimates}
@@ -26,8 +27,10 @@ pub data Claim : Type 0 where
   least : Problem → (bound : ℕ) → (starts : List ℕ) → Claim
   -- the offered plan is valid, with the second job starting just where the first finishes, although they interfere
   touching : Problem → (bound : ℕ) → (starts : List ℕ) → (first second : ℕ) → Claim
-  -- the offered plan is refused with this number and place
-  offered : Problem → (bound : ℕ) → (starts : List ℕ) → (number place : ℕ) → Claim
+  -- the offered plan is refused with this number, second number and place
+  offered : Problem → (bound : ℕ) → (starts : List ℕ) → (number second place : ℕ) → Claim
+  -- the two jobs clash like this, by kind and fact
+  clashing : Problem → (i j kind fact : ℕ) → Claim
   -- these are the binding pairs of the plan, two bytes a pair
   binding : Problem → (starts bytes : List ℕ) → Claim
   -- the reading has these tenths
@@ -104,7 +107,8 @@ IsSo (plans P bound l) = Plans P bound (starts l)
 IsSo (noPlan P bound) = Refuses10 P bound
 IsSo (least P b l) = LeastIs P b (starts l)
 IsSo (touching P bound l a b) = Judged P bound (starts l) accepted × Touch P (starts l) a b
-IsSo (offered P bound l number place) = Judged P bound (starts l) (refused number place)
+IsSo (offered P bound l number second place) = Judged P bound (starts l) (refusedFor number second place)
+IsSo (clashing P i j kind fact) = numbers (clashIn P i j) ≡ record { kind = kind; fact = fact }
 IsSo (binding P l bytes) = pairBytes P (starts l) ≡ bytes
 IsSo (tenths x t) = HasTenths x t
 IsSo (estimates P l) = EstimatesAre P (starts l)

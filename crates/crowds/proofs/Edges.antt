@@ -7,8 +7,9 @@ use Prim.Native.Nat.{ℕ, _+_, _≤_, _<_}
 use native.Mathlib.Omega.{arith}
 use lib.Dec.{T}
 use Rattle.facts.specs.Facts.{has}
-use Rattle.rules.specs.Plans.{Plan, interfere}
-use Rattle.rules.proofs.Clash.{flip}
+use Rattle.rules.specs.Clashes.{interfere}
+use Rattle.rules.specs.Plans.{Plan}
+use Rattle.rules.proofs.Clashing.{flip}
 use Rattle.states.specs.State.{Search, HasJob, St, Left, Sure, Low}
 use Rattle.crowds.specs.Crowds.{Group, Away, GroupPlaced, CrowdOf, total, AllIn, Pile, Beside, AllBeside, Precede, All}
 use Rattle.crowds.proofs.Spans.{Span, Clear, AllClear, Within, length, room}

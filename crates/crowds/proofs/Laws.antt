@@ -9,7 +9,8 @@ use lib.Bits.{bitOr}
 use lib.Dec.{T}
 use lib.ListN.{getD}
 use Rattle.facts.specs.Facts.{has}
-use Rattle.rules.specs.Plans.{Plan, interfere}
+use Rattle.rules.specs.Clashes.{interfere}
+use Rattle.rules.specs.Plans.{Plan}
 use Rattle.states.specs.State.{Search, Left, More, Low, Dead}
 use Rattle.cells.specs.View.{view, AllAhead, Prunes}
 use Rattle.lent.specs.Lent.{stepOf, Lent}

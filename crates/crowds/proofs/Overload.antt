@@ -10,8 +10,9 @@ use lib.Dec.{T}
 use Rattle.facts.specs.Facts.{has}
 use Rattle.facts.proofs.Bools.{or-l, or-r, or-cases}
 use Rattle.facts.proofs.Sets.{has-zero, has-or}
-use Rattle.rules.specs.Plans.{Plan, interfere}
-use Rattle.rules.proofs.Clash.{interfere-at}
+use Rattle.rules.specs.Clashes.{interfere}
+use Rattle.rules.specs.Plans.{Plan}
+use Rattle.rules.proofs.Clashing.{interfere-at}
 use Rattle.states.specs.State.{Search, St, Left, Dead, More}
 use Rattle.states.proofs.Keep.{left-back}
 use Rattle.groups.specs.OneOf.{SomeOf}

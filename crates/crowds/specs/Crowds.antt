@@ -5,7 +5,8 @@ use mathlib.Core.List.{List, [], _∷_}
 use Prim.Native.Nat.{ℕ, _+_, _≤_}
 use lib.Dec.{T}
 use Rattle.facts.specs.Facts.{has}
-use Rattle.rules.specs.Plans.{Plan, interfere}
+use Rattle.rules.specs.Clashes.{interfere}
+use Rattle.rules.specs.Plans.{Plan}
 use Rattle.states.specs.State.{Search, HasJob, Ahead, St, Left, Sure}
 use Rattle.groups.specs.OneOf.{SomeOf}
 

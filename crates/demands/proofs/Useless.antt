@@ -10,11 +10,12 @@ use borrow.Author.Tests.{le-ltb}
 use lib.ListN.{length, getD}
 use Rattle.facts.specs.Facts.{has, after}
 use Rattle.facts.specs.Least.{least, further, any}
-use Rattle.refusals.specs.Refusals.{Verdict, accepted, refused, refuseIf, refuseAt}
+use Rattle.refusals.specs.Refusals.{Verdict, accepted, refusedFor, refuseIf, refuseAt, refuseFor}
 use Rattle.rules.specs.Table.{Problem, between, strays, jobStrays, undoes, jobChecks, tableChecks, boundCheck}
 use Rattle.rules.specs.Premises.{InOrder}
-use Rattle.rules.specs.Plans.{starts, inPlan, spoils, interfere, ends, afterIf, finishes, holds, Valid}
-use Rattle.rules.specs.Verdicts.{late, early, overlap, clashes, unready, missing, planChecks}
+use Rattle.rules.specs.Clashes.{spoils, clashOf, interfere}
+use Rattle.rules.specs.Plans.{starts, inPlan, ends, afterIf, finishes, holds, Valid}
+use Rattle.rules.specs.Verdicts.{late, early, overlap, clashes, clashFact, unready, missing, planChecks}
 use Rattle.rules.proofs.Judged.{judged}
 use Rattle.rules.proofs.Orders.{wider}
 use Rattle.tables.specs.declared.Answer.{Answer}
@@ -34,11 +35,11 @@ abbrev P3 : Problem
 P3 = problem jobsU (askU 28 14)
 
 table1 : tableChecks P1 accepted ≡ accepted
-unfolding tableChecks jobChecks between strays jobStrays undoes refuseAt refuseIf has any least further unmarked
+unfolding tableChecks jobChecks between strays jobStrays undoes refuseAt refuseFor refuseIf has any least further unmarked
 table1 = refl
 
 table3 : tableChecks P3 accepted ≡ accepted
-unfolding tableChecks jobChecks between strays jobStrays undoes refuseAt refuseIf has any least further unmarked
+unfolding tableChecks jobChecks between strays jobStrays undoes refuseAt refuseFor refuseIf has any least further unmarked
 table3 = refl
 
 order1 : InOrder P1
@@ -50,14 +51,14 @@ order3 = in-order P3 table3
 -- ── plans that are valid, and plans that are not ──
 
 p1 : planChecks P1 12 (starts (0 ∷ 4 ∷ 4 ∷ 65535 ∷ [])) accepted ≡ accepted
-unfolding planChecks refuseAt refuseIf late early clashes overlap unready missing interfere spoils holds finishes afterIf ends inPlan after has any least further unmarked
+unfolding planChecks refuseAt refuseFor refuseIf late early clashes clashFact overlap unready missing interfere clashOf spoils holds finishes afterIf ends inPlan after has any least further unmarked
 p1 = refl
 
 valid1 : Valid P1 12 (starts (0 ∷ 4 ∷ 4 ∷ 65535 ∷ []))
 valid1 = judged P1 order1 12 (starts (0 ∷ 4 ∷ 4 ∷ 65535 ∷ [])) .0 p1
 
 p3 : planChecks P3 12 (starts plan3) accepted ≡ accepted
-unfolding planChecks refuseAt refuseIf late early clashes overlap unready missing interfere spoils holds finishes afterIf ends inPlan after has any least further unmarked
+unfolding planChecks refuseAt refuseFor refuseIf late early clashes clashFact overlap unready missing interfere clashOf spoils holds finishes afterIf ends inPlan after has any least further unmarked
 p3 = refl
 
 valid3 : Valid P3 12 (starts plan3)
@@ -71,18 +72,18 @@ empty = 65535 ∷ 65535 ∷ 65535 ∷ 65535 ∷ []
 abbrev pub untouched : List ℕ
 untouched = 0 ∷ 0 ∷ 0 ∷ 0 ∷ []
 
-empty-fails : planChecks P1 12 (starts empty) accepted ≡ refused 14 2
-unfolding planChecks refuseAt refuseIf late early clashes overlap unready missing interfere spoils holds finishes afterIf ends inPlan after has any least further unmarked
+empty-fails : planChecks P1 12 (starts empty) accepted ≡ refusedFor 14 0 2
+unfolding planChecks refuseAt refuseFor refuseIf late early clashes clashFact overlap unready missing interfere clashOf spoils holds finishes afterIf ends inPlan after has any least further unmarked
 empty-fails = refl
 
-untouched-fails : planChecks P1 12 (starts untouched) accepted ≡ refused 12 1
-unfolding planChecks refuseAt refuseIf late early clashes overlap unready missing interfere spoils holds finishes afterIf ends inPlan after has any least further unmarked
+untouched-fails : planChecks P1 12 (starts untouched) accepted ≡ refusedFor 12 2 1
+unfolding planChecks refuseAt refuseFor refuseIf late early clashes clashFact overlap unready missing interfere clashOf spoils holds finishes afterIf ends inPlan after has any least further unmarked
 untouched-fails = refl
 
 -- ── the promise at P1 ──
 
 passes1 : callChecks false 12 jobsU (askU 12 12) accepted ≡ accepted
-unfolding boundCheck tableChecks jobChecks between strays jobStrays undoes refuseAt refuseIf has any least further unmarked
+unfolding boundCheck tableChecks jobChecks between strays jobStrays undoes refuseAt refuseFor refuseIf has any least further unmarked
 passes1 = refl
 
 module _ (old new : List ℕ) (r : Answer) (room : 4 ≤ length old) (p : PlansWithin jobsU (askU 12 12) old new r) where
@@ -99,23 +100,23 @@ module _ (old new : List ℕ) (r : Answer) (room : 4 ≤ length old) (p : PlansW
       (λ i h. sym (filled-at (f .s) 4 old i 0 h (omega arith)) ∙ sym (ap (λ (l : List ℕ). getD l i 0) (f .table)) ∙ e i h) 12 (f .ok .ok)
 
   -- so a plan that the checks refuse is not given
-  not-given : (zs : List ℕ) (n k : ℕ) → 0 < n → planChecks P1 12 (starts zs) accepted ≡ refused n k → r .number ≡ 0 → ((i : ℕ) → i < 4 → getD new i 0 ≡ getD zs i 0) → ⊥
-  not-given zs n k l h z e =
+  not-given : (zs : List ℕ) (n x k : ℕ) → 0 < n → planChecks P1 12 (starts zs) accepted ≡ refusedFor n x k → r .number ≡ 0 → ((i : ℕ) → i < 4 → getD new i 0 ≡ getD zs i 0) → ⊥
+  not-given zs n x k l h z e =
       let o : n ≡ 0 = ap (λ (v : Verdict). v .number) (sym h ∙ judged P1 order1 12 (starts zs) .1 (given zs z e)) in
       omega arith
 
   -- always the empty plan
   pub always-empty : r .number ≡ 0 → ((i : ℕ) → i < 4 → getD new i 0 ≡ getD empty i 0) → ⊥
-  always-empty = not-given empty 14 2 (omega arith) empty-fails
+  always-empty = not-given empty 14 0 2 (omega arith) empty-fails
 
   -- returns and writes nothing
   pub writes-nothing : r .number ≡ 0 → new ≡ old → ((i : ℕ) → i < 4 → getD old i 0 ≡ getD untouched i 0) → ⊥
-  writes-nothing z e h = not-given untouched 12 1 (omega arith) untouched-fails z (λ i l. ap (λ (x : List ℕ). getD x i 0) e ∙ h i l)
+  writes-nothing z e h = not-given untouched 12 2 1 (omega arith) untouched-fails z (λ i l. ap (λ (x : List ℕ). getD x i 0) e ∙ h i l)
 
 -- ── the promise at P3 ──
 
 passes3 : callChecks false 14 jobsU (askU 28 14) accepted ≡ accepted
-unfolding boundCheck tableChecks jobChecks between strays jobStrays undoes refuseAt refuseIf has any least further unmarked
+unfolding boundCheck tableChecks jobChecks between strays jobStrays undoes refuseAt refuseFor refuseIf has any least further unmarked
 passes3 = refl
 
 module _ (old new : List ℕ) (r : Answer) (p : BoundsWithin jobsU (askU 28 14) old new r) where

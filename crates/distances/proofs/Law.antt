@@ -12,7 +12,7 @@ use Rattle.rules.specs.Premises.{InOrder, deletes}
 use Rattle.rules.specs.Plans.{Plan, In, finish, Over, holds, Valid}
 use Rattle.rules.specs.Estimates.{cost, condition, dearest, Estimates}
 use Rattle.rules.proofs.Time.{Quiet, Given, caused}
-use Rattle.rules.proofs.Clash.{ordered, differ}
+use Rattle.rules.proofs.Clashing.{ordered, differ}
 use Rattle.rules.proofs.Early.{plus-le, cost-le, condition-free, condition-is, Dear, dearest-at}
 use Rattle.distances.specs.Distances.{since, SparedFacts}
 

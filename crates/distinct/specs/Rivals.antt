@@ -8,7 +8,7 @@ use Rattle.facts.specs.Facts.{has}
 use Rattle.facts.specs.Words.{Covers}
 use Rattle.rules.specs.Table.{Problem, needs}
 use Rattle.rules.specs.Premises.{adds, deletes}
-use Rattle.rules.specs.Plans.{interfere}
+use Rattle.rules.specs.Clashes.{interfere}
 use Rattle.states.specs.State.{Search, St, Must, StartMay, JobMay}
 use Rattle.rules.specs.Supports.{task}
 use Rattle.cells.specs.View.{view}

@@ -8,7 +8,7 @@ use Prim.Native.Nat.{ℕ, _≤_, _<_}
 use lib.Dec.{T}
 use Rattle.facts.specs.Facts.{has}
 use Rattle.rules.specs.Premises.{InOrder}
-use Rattle.rules.specs.Plans.{interfere}
+use Rattle.rules.specs.Clashes.{interfere}
 use Rattle.states.specs.State.{Search, OpenJob, OpenPair}
 use Rattle.cells.specs.View.{view}
 use Rattle.lent.specs.Lent.{Cols, hitsOf}

@@ -1,13 +1,13 @@
 -- The checks of a table look at its jobs alone: two tables with the same jobs are judged alike.
 -- Assumes nothing.
 use mathlib.Core.Path.{_≡_, ap, _∙_}
-use mathlib.Core.Bool.{Bool, not, _&&_, _||_}
+use mathlib.Core.Bool.{Bool, not, _&&_, _||_, cond}
 use Prim.Native.Nat.{ℕ, _<_}
 use lib.Dec.{ltb}
 use Rattle.facts.specs.Facts.{has}
 use Rattle.facts.specs.Least.{any}
 use Rattle.facts.proofs.Least.{least-same}
-use Rattle.refusals.specs.Refusals.{Verdict, refuseIf, refuseAt}
+use Rattle.refusals.specs.Refusals.{Verdict, refused, refuseIf, refuseAt, refuseFor}
 use Rattle.rules.specs.Table.{between, strays, jobStrays, undoes, jobChecks, tableChecks}
 use Rattle.tables.specs.declared.Action.{Action}
 use Rattle.tables.specs.declared.Loaded.{Loaded}
@@ -18,8 +18,8 @@ use Rattle.tables.specs.Steps.{strayRecord}
 -- a test of each job
 each-same : (f : Action → Bool) (l l′ : Loaded) (m n : ℕ) (v : Verdict) → ((i : ℕ) → i < m → jobAt l i ≡ jobAt l′ i)
     → refuseAt (λ i. f (jobAt l i)) m n v ≡ refuseAt (λ i. f (jobAt l′ i)) m n v
-unfolding refuseAt any
-each-same f l l′ m n v h = ap (λ (r : ℕ). refuseIf (ltb r m) n r v) (least-same (λ i. f (jobAt l i)) (λ i. f (jobAt l′ i)) m (λ i k. ap f (h i k)))
+unfolding refuseAt refuseFor any
+each-same f l l′ m n v h = ap (λ (r : ℕ). cond (ltb r m) (refused n r) v) (least-same (λ i. f (jobAt l i)) (λ i. f (jobAt l′ i)) m (λ i k. ap f (h i k)))
 
 pub checks-same : (l l′ : Loaded) (q : Ask) (v : Verdict) → ((i : ℕ) → i < q .jobs → jobAt l i ≡ jobAt l′ i)
     → tableChecks (problem l q) v ≡ tableChecks (problem l′ q) v

@@ -6,7 +6,8 @@ use Prim.Native.Nat.{ℕ, _+_, _*_, _%_, _≤_, _<_, _^_}
 use lib.Dec.{T}
 use lib.ListN.{getD}
 use Rattle.facts.specs.Facts.{has}
-use Rattle.rules.specs.Plans.{Plan, In, Over, interfere, Valid}
+use Rattle.rules.specs.Clashes.{interfere}
+use Rattle.rules.specs.Plans.{Plan, In, Over, Valid}
 use Rattle.rules.specs.Table.{Problem}
 use Rattle.rules.specs.Premises.{InOrder, adds, deletes}
 use Rattle.states.specs.State.{Search, Leads}

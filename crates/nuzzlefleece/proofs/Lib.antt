@@ -4,5 +4,6 @@ pub mod Fills
 pub mod Derives
 pub mod Fits
 pub mod Only
+pub mod Seconds
 pub mod Back
 pub mod AsRead

@@ -1,6 +1,8 @@
 // The calls: over the caller's lent job records, under names of their own for C, with no condition on the caller.
 // A call over records takes them out and hands on to the call on a table by value, all in one form, so that one walk proves them.
 ghost use mathlib.Core.Path.{_≡_};
+ghost use Rattle.rules.specs.Clashes.{clashOf, numbers};
+ghost use Rattle.interference.specs.Records.{recordMasks};
 ghost use Rattle.verdict.specs.Offered.{ChecksPlan};
 ghost use Rattle.bindings.specs.Bindings.{Supports, Pairs};
 ghost use Rattle.estimates.specs.Earliest.{Earliest};
@@ -16,6 +18,7 @@ ghost use Rattle.page.specs.Page.{Pages};
 use jobfile::Read;
 use readings::BenchReading;
 use readings::Opening;
+use rules::ClashNumbers;
 use tables::Action;
 use tables::Answer;
 use tables::Ask;
@@ -26,7 +29,7 @@ use tables::Loaded;
 pub extern "C" fn nuzzlefleece_version() -> u32
     ensures { λ r. ⌜ r ≡ version ⌝ }
 {
-    10200
+    10300
 }
 
 // The verdict on an offered plan.
@@ -36,6 +39,14 @@ pub extern "C" fn nuzzlefleece_check_plan(t: &[Action], q: Ask, starts: &[u16]) 
 {
     let l = records::load(t);
     verdict::check_plan(l, q, starts)
+}
+
+// Why two jobs with these records clash, by kind and lowest fact.
+#[no_mangle]
+pub extern "C" fn nuzzlefleece_why_clash(one: Action, other: Action) -> ClashNumbers
+    ensures { λ r. ⌜ r ≡ numbers (clashOf (recordMasks one) (recordMasks other)) ⌝ }
+{
+    interference::why_clash(one, other)
 }
 
 // The first valid plan within the bound, in the stated order.

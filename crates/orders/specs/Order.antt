@@ -4,7 +4,7 @@ use mathlib.Core.Bool.{Bool}
 use mathlib.Core.List.{List}
 use Prim.Native.Nat.{ℕ, _≤_}
 use lib.Dec.{T}
-use Rattle.rules.specs.Plans.{interfere}
+use Rattle.rules.specs.Clashes.{interfere}
 use Rattle.states.specs.State.{Search}
 use Rattle.cells.specs.View.{view, Says, Till}
 

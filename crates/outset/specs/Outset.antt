@@ -10,7 +10,8 @@ use lib.ListN.{getD}
 use Rattle.facts.specs.Facts.{has}
 use Rattle.rules.specs.Table.{Problem}
 use Rattle.rules.specs.Premises.{InOrder}
-use Rattle.rules.specs.Plans.{Plan, interfere, Valid}
+use Rattle.rules.specs.Clashes.{interfere}
+use Rattle.rules.specs.Plans.{Plan, Valid}
 use Rattle.rules.specs.Order.{NoPlan}
 use Rattle.tables.specs.Tables.{jobAt, problem}
 use Rattle.tables.specs.declared.Action.{Action}

@@ -9,7 +9,7 @@ use native.Mathlib.Omega.{arith}
 use lib.Dec.{ltb}
 use lib.ListN.{length}
 use Rattle.facts.proofs.Lists.{getD-any}
-use Rattle.refusals.specs.Refusals.{accepted, refused}
+use Rattle.refusals.specs.Refusals.{accepted, refused, refusedFor}
 use Rattle.rules.specs.Premises.{InOrder, enoughTime}
 use Rattle.rules.specs.Plans.{Plan}
 use Rattle.rules.specs.Order.{First, LeastBound, NoPlan}
@@ -54,7 +54,7 @@ module _ (l : Loaded) (q : Ask) (old : List ℕ) {f : Answer}
   pub plans-refused : (f .number ≡ 0 → ⊥) → PlansWithin l q old old f
   plans-refused n = fills-fault (call-checks (ltb (length old) (q .jobs)) (q .bound) l q) _ 0 (q .jobs) old (j .says) refl n
 
-  pub bounds-refused : {r : Answer} → (f .number ≡ 0 → ⊥) → r ≡ answerOf (refused (f .number) (f .place)) 0 65535 → BoundsWithin l q old old r
+  pub bounds-refused : {r : Answer} → (f .number ≡ 0 → ⊥) → r ≡ answerOf (refusedFor (f .number) (f .second) (f .place)) 0 65535 → BoundsWithin l q old old r
   bounds-refused n e = fills-refused (call-checks (ltb (length old) (q .jobs)) (q .bound) l q) _ 65535 (q .jobs) old (j .says) n e
 
   module _ (z : f .number ≡ 0) (t : ℕ) (h : t ≡ top l q) where

@@ -129,7 +129,7 @@ pub fn least_bound(l: Loaded, q: Ask, out: &mut [u16]) -> Answer
 {
     let fault = tables::call_fault(l, q, out.len() < q.jobs, q.bound);
     if fault.number != 0 {
-        return tables::refuse(fault.number, fault.place, 65535);
+        return tables::refuse_for(fault.number, fault.second, fault.place, 65535);
     }
     let top = enough(l, q);
     let mut starts = [65535u16; 24];

@@ -12,7 +12,7 @@ use Rattle.facts.proofs.Sets.{one-fails}
 use Rattle.rules.specs.Table.{Problem, needs}
 use Rattle.rules.specs.Premises.{InOrder, adds, deletes}
 use Rattle.rules.specs.Plans.{Plan, In, finish, Over, holds, Valid}
-use Rattle.rules.proofs.Clash.{ordered}
+use Rattle.rules.proofs.Clashing.{ordered}
 use Rattle.reach.specs.Reach.{PairSet, Fit, Closed, Exclude, EDeletes, outright, by-adding, by-needing}
 use Rattle.reach.proofs.States.{runs, states}
 

@@ -9,9 +9,10 @@ use lib.Dec.{T}
 use Rattle.facts.specs.Facts.{has}
 use Rattle.rules.specs.Table.{Problem, needs}
 use Rattle.rules.specs.Premises.{InOrder, adds, deletes}
-use Rattle.rules.specs.Plans.{Plan, In, Over, Apart, interfere, ends, finishes, holds, Valid}
+use Rattle.rules.specs.Clashes.{interfere}
+use Rattle.rules.specs.Plans.{Plan, In, Over, Apart, ends, finishes, holds, Valid}
 use Rattle.rules.proofs.Time.{if-keep, if-add, if-cause}
-use Rattle.rules.proofs.Clash.{Spoils, interfere-at, clash, flip, given}
+use Rattle.rules.proofs.Clashing.{Spoils, interfere-at, clash, flip, given}
 use Rattle.reach.specs.Reach.{PairSet, Closed, Exact, EDeletes, outright, by-adding, by-needing, Takes, strong, EWords}
 use Rattle.reach.proofs.Rounds.{small}
 use Rattle.reach.proofs.States.{mid, kept, states, mids}

@@ -10,7 +10,7 @@ use Rattle.rules.specs.Table.{Problem, needs}
 use Rattle.rules.specs.Premises.{InOrder, adds, deletes}
 use Rattle.rules.specs.Plans.{Plan, In, finish, Over, ends, finishes, holds, Valid}
 use Rattle.rules.proofs.Time.{if-cause, ends-in, ends-at, Still, keep, Quiet, persists}
-use Rattle.rules.proofs.Clash.{ordered}
+use Rattle.rules.proofs.Clashing.{ordered}
 use Rattle.reach.specs.Reach.{PairSet, Fit, Closed, Reachable}
 
 module _ (P : Problem) (ok : InOrder P) (bound : ℕ) (s : Plan) (v : Valid P bound s) where

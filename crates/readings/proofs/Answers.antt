@@ -30,7 +30,7 @@ fact-below k n = go (decLe 64 (k .fact))
 
 -- r is the lowest mark out of range, or the count
 module _ (m : Marks) (r : ℕ) (found : r ≡ least (λ i. bad (m .mark i)) (m .count)) where
-  pub some-bad : r < m .count → (opened given : ℕ) → record { number = 18; place = r; facts = given } ≡ openingAnswer (markChecks m accepted) opened given
+  pub some-bad : r < m .count → (opened given : ℕ) → record { number = 18; second = 0; place = r; facts = given } ≡ openingAnswer (markChecks m accepted) opened given
   unfolding markChecks
   some-bad l opened given = ap (λ (v : Verdict). openingAnswer v opened given) (sym (at-hit _ _ 18 accepted found l))
 
@@ -38,7 +38,7 @@ module _ (m : Marks) (r : ℕ) (found : r ≡ least (λ i. bad (m .mark i)) (m .
   facts-below l i h = fact-below (m .mark i) (lowest (λ i. bad (m .mark i)) (m .count) .first i (subst (λ (k : ℕ). i < k) found (omega arith)))
 
   pub none-bad : m .count ≤ r → (temperature humidity : ℤ) (given w : ℕ) → w < 2 ^ 64 → Word (opened temperature humidity m given) w
-      → record { number = 0; place = 0; facts = w } ≡ openingAnswer (markChecks m accepted) (wordOf (opened temperature humidity m given) 64) given
+      → record { number = 0; second = 0; place = 0; facts = w } ≡ openingAnswer (markChecks m accepted) (wordOf (opened temperature humidity m given) 64) given
   unfolding markChecks
   none-bad l temperature humidity given w h x =
       ap (λ (facts : ℕ). openingAnswer accepted facts given) (word-is 64 (opened temperature humidity m given) w h x)

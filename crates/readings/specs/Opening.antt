@@ -37,7 +37,7 @@ openingChecks r m next =
 
 -- what comes back: the verdict, and the facts opened, or those given on refusal
 abbrev pub openingAnswer : Verdict → (opened given : ℕ) → Opening
-openingAnswer v facts given = record { number = v .number; place = v .place; facts = cond (eqb (v .number) 0) facts given }
+openingAnswer v facts given = record { number = v .number; second = v .second; place = v .place; facts = cond (eqb (v .number) 0) facts given }
 
 -- the promise of `opening_facts`
 abbrev pub Opens : BenchReading → Marks → (given : ℕ) → Opening → Type 0

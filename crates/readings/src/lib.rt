@@ -26,20 +26,22 @@ pub struct Mark {
     pub fact: u8,
 }
 
-// Number and place are 0 on success; on refusal the facts are as given.
+// Number, second number and place are 0 on success; on refusal the facts are as given.
 #[repr(C)]
 pub struct Opening {
     pub number: u8,
+    pub second: u8,
     pub place: u16,
     pub facts: u64,
 }
 
 // What comes back: on success the facts opened, on refusal those given.
 fn answered(number: u8, place: u16, facts: u64) -> Opening
-    ensures { λ a. ⌜ a ≡ record { number = number; place = place; facts = facts } ⌝ }
+    ensures { λ a. ⌜ a ≡ record { number = number; second = 0; place = place; facts = facts } ⌝ }
 {
     Opening {
         number,
+        second: 0,
         place,
         facts,
     }

@@ -1,13 +1,14 @@
 -- The checks of a table, a bound and a plan are lists of checks.
 -- Assumes nothing.
+use mathlib.Core.Path.{refl}
 use mathlib.Core.Bool.{not, _||_}
 use Prim.Native.Nat.{ℕ}
 use native.Mathlib.Omega.{arith}
 use lib.Dec.{ltb}
 use Rattle.rules.specs.Table.{Problem, between, strays, jobStrays, undoes, jobChecks, tableChecks, boundCheck}
 use Rattle.rules.specs.Plans.{Plan}
-use Rattle.rules.specs.Verdicts.{late, early, clashes, unready, missing, planChecks}
-use Rattle.refusals.proofs.Refused.{Checks, at-checks, if-checks, then-checks}
+use Rattle.rules.specs.Verdicts.{late, early, clashes, clashFact, unready, missing, planChecks}
+use Rattle.refusals.proofs.Refused.{Checks, at-checks, for-checks, if-checks, then-checks}
 
 pub job-checks : (P : Problem) → Checks (jobChecks P)
 unfolding jobChecks
@@ -31,5 +32,5 @@ unfolding planChecks
 plan-checks P bound s =
     then-checks (at-checks (late P bound s) (P .count) 11 (omega arith))
     (then-checks (at-checks (early P s) (P .count) 21 (omega arith))
-    (then-checks (at-checks (clashes P s) (P .count) 12 (omega arith))
+    (then-checks (for-checks (clashes P s) (clashFact P s) (P .count) 12 (omega arith) (λ k ne. absurd (ne refl)))
     (then-checks (at-checks (unready P s) (P .count) 13 (omega arith)) (at-checks (missing P bound s) 64 14 (omega arith)))))

@@ -12,7 +12,8 @@ use Rattle.facts.specs.Facts.{has}
 use Rattle.facts.proofs.Bools.{and-r, same, eqb-of}
 use Rattle.rules.specs.Table.{Problem}
 use Rattle.rules.specs.Premises.{InOrder}
-use Rattle.rules.specs.Plans.{Plan, inPlan, In, finish, Over, spoils, interfere, ends, afterIf, finishes, holds, Valid}
+use Rattle.rules.specs.Clashes.{interfere}
+use Rattle.rules.specs.Plans.{Plan, inPlan, In, finish, Over, ends, afterIf, finishes, holds, Valid}
 use Rattle.rules.proofs.Time.{still}
 use Rattle.rules.proofs.Retimed.{redo}
 
@@ -78,7 +79,7 @@ module _ (P : Problem) (ok : InOrder P) (s : Plan) where
   over-from i j (inr o) = inr (omega arith)
 
   pub as-longer : (bound : ℕ) → Valid P bound s ↔ Valid longer (bound + P .gap) s
-  unfolding interfere spoils
+  unfolding interfere
   as-longer bound = (
     λ v. record {
       inside = λ i k. omega (arith, v .inside i (from i k));

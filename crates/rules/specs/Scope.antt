@@ -5,7 +5,8 @@ use Prim.Native.Nat.{ℕ, _≤_}
 use lib.Dec.{T}
 use Rattle.facts.specs.Facts.{has}
 use Rattle.rules.specs.Table.{Problem, needs}
-use Rattle.rules.specs.Plans.{Plan, In, finish, interfere, holds}
+use Rattle.rules.specs.Clashes.{interfere}
+use Rattle.rules.specs.Plans.{Plan, In, finish, holds}
 
 -- each start plus duration is at most the bound; interfering jobs that are both in do not overlap; at its start each job in the plan finds all its
 -- conditions; at the bound, after all finishes, the goals hold

@@ -11,10 +11,10 @@ use lib.ListN.{length}
 use Rattle.facts.specs.Facts.{has}
 use Rattle.facts.specs.Least.{any}
 use Rattle.facts.proofs.Bools.{and-l, and-of, eqb-of}
-use Rattle.facts.proofs.Least.{any-of}
-use Rattle.refusals.specs.Refusals.{Verdict, accepted, refused, refuseIf, refuseAt, Ruled}
+use Rattle.facts.proofs.Least.{least-hit, any-of}
+use Rattle.refusals.specs.Refusals.{Verdict, accepted, refused, refuseIf, Ruled}
 use Rattle.rules.specs.Settling.{Obeys, Settled, Settles, settleChecks}
-use Rattle.refusals.proofs.Refused.{if-hit, went-on, ruled-yes}
+use Rattle.refusals.proofs.Refused.{at-hit, went-on, ruled-yes}
 use Rattle.rules.proofs.Settle.{settles-only, itself}
 use Rattle.tables.specs.declared.Loaded.{Loaded}
 use Rattle.tables.specs.declared.Ask.{Ask}
@@ -70,9 +70,9 @@ module _ (l : Loaded) (q : Ask) (bytes old : List ℕ) where
 
     -- outside the set it is refused before that, once checks 3 to 9 and 20 have passed
     pub itself-outside : callChecks (short l q bytes (length old)) (q .bound) l q accepted ≡ accepted → (T (has (q .set) (pairFirst bytes k)) → ⊥) → r .number ≡ 15
-    unfolding settleChecks refuseAt
+    unfolding settleChecks
     itself-outside c n = ap (λ (x : Answer). x .number) (a .says) ∙ ap (λ (v : Verdict). v .number) (on (settleChecks (problem l q) (q .set) (pairFirst bytes) (pairSecond bytes) (q .pairs) (a .v)))
-        ∙ fifteen _ 601 _ (fifteen _ 600 _ (ap (λ (v : Verdict). v .number) (if-hit _ 15 _ (a .v) strays)))
+        ∙ fifteen _ 601 _ (fifteen _ 600 _ (ap (λ (v : Verdict). v .number) (at-hit _ _ 15 (a .v) refl (least-hit _ _ strays .0))))
       where
         on : (v : Verdict) → callChecks (short l q bytes (length old)) (q .bound) l q v ≡ v
         on = went-on (callChecks (short l q bytes (length old)) (q .bound) l q) (call-checks (short l q bytes (length old)) (q .bound) l q) (ap (λ (v : Verdict). v .number) c)

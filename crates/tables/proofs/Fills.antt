@@ -6,7 +6,7 @@ use mathlib.Core.List.{List}
 use Prim.Native.Nat.{ℕ, _<_}
 use native.Mathlib.Decide.{ℕ-discrete}
 use borrow.Author.Tests.{eq-eqb}
-use Rattle.refusals.specs.Refusals.{Verdict, accepted, refused}
+use Rattle.refusals.specs.Refusals.{Verdict, accepted, refusedFor}
 use Rattle.refusals.proofs.Refused.{Checks, stopped, went-on}
 use Rattle.tables.specs.declared.Answer.{Answer}
 use Rattle.tables.specs.Tables.{answerOf, filled, changed, Fills}
@@ -18,19 +18,19 @@ module _ {C : Verdict → Verdict} (k : Checks C) (A : Verdict → ℕ → (ℕ 
 
   module _ {f : Answer} (e : f ≡ answerOf (C accepted) 0 0) where
     -- the checks refuse
-    pub fills-refused : {r : Answer} → (f .number ≡ 0 → ⊥) → r ≡ answerOf (refused (f .number) (f .place)) 0 nay → Fills C A nay n old old r
+    pub fills-refused : {r : Answer} → (f .number ≡ 0 → ⊥) → r ≡ answerOf (refusedFor (f .number) (f .second) (f .place)) 0 nay → Fills C A nay n old old r
     fills-refused h d = record {
       v = accepted;
       value = 0;
       s = λ i. 0;
       behind = λ a. absurd (h (numbered 0 0 e ∙ ap (λ (v : Verdict). v .number) a));
-      says = d ∙ said 0 nay (ap (λ (a : Answer). refused (a .number) (a .place)) (sym e));
+      says = d ∙ said 0 nay (ap (λ (a : Answer). refusedFor (a .number) (a .second) (a .place)) (sym e));
       leaves = sym (changed-old (C accepted) _ old (λ z. h (numbered 0 0 e ∙ z)));
     }
 
     -- with the answer of the checks itself
     pub fills-fault : nay ≡ 0 → (f .number ≡ 0 → ⊥) → Fills C A nay n old old f
-    fills-fault is h = fills-refused h (e ∙ ap (λ (x : ℕ). answerOf (C accepted) 0 x) (sym is) ∙ said 0 nay (ap (λ (a : Answer). refused (a .number) (a .place)) e))
+    fills-fault is h = fills-refused h (e ∙ ap (λ (x : ℕ). answerOf (C accepted) 0 x) (sym is) ∙ said 0 nay (ap (λ (a : Answer). refusedFor (a .number) (a .second) (a .place)) e))
 
     -- they accept, and v comes behind them
     pub fills-behind : {r : Answer} {new : List ℕ} → f .number ≡ 0 → (v : Verdict) (value : ℕ) (s : ℕ → ℕ) → A v value s → r ≡ answerOf v value nay → new ≡ changed v (filled s n old) old

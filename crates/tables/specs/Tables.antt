@@ -51,7 +51,7 @@ problem l q = record {
 
 -- the answer that says a verdict: the number returned is `yea` on success and `nay` on refusal
 abbrev pub answerOf : Verdict → (yea nay : ℕ) → Answer
-answerOf v yea nay = record { number = v .number; place = v .place; value = cond (eqb (v .number) 0) yea nay }
+answerOf v yea nay = record { number = v .number; second = v .second; place = v .place; value = cond (eqb (v .number) 0) yea nay }
 
 -- lent memory whose first n places are filled with f 0, f 1, ..; the rest is as it was
 unfoldable pub filled : {A : Type 0} → (ℕ → A) → ℕ → List A → List A

@@ -4,7 +4,7 @@ ghost use mathlib.Core.Bool.{not, _||_};
 ghost use Prim.Native.Nat.{_≤_, _<_, min};
 ghost use lib.Dec.{ltb};
 ghost use Rattle.facts.specs.Least.{least};
-ghost use Rattle.refusals.specs.Refusals.{accepted, refused};
+ghost use Rattle.refusals.specs.Refusals.{accepted, refused, refusedFor};
 ghost use Rattle.rules.specs.Table.{between, strays, jobChecks, boundCheck};
 ghost use Rattle.tables.specs.Tables.{unmarked, problem, answerOf, noJobs, jobAt, callChecks};
 ghost use Rattle.tables.specs.Steps.{withJob, jobFails, strayRecord, Judges, Cleared};
@@ -97,10 +97,11 @@ pub fn gap(q: Ask) -> u16
     1
 }
 
-// What every call says: number and place, both 0 on success, and the number returned.
+// What every call says: number, second number and place, all 0 on success, and the number returned.
 #[repr(C)]
 pub struct Answer {
     pub number: u8,
+    pub second: u8,
     pub place: u16,
     pub value: u32,
 }
@@ -111,6 +112,7 @@ pub fn done(value: u32) -> Answer
 {
     Answer {
         number: 0,
+        second: 0,
         place: 0,
         value,
     }
@@ -194,16 +196,25 @@ fn first_job(l: Loaded, q: Ask, check: u8) -> usize
     n
 }
 
-// A refusal at a place, or none.
+// A refusal with a second number, at a place.
+pub fn refuse_for(number: u8, second: u8, place: u16, value: u32) -> Answer
+    requires { ⌜ 0 < number ⌝ }
+    ensures { λ r. ⌜ r ≡ answerOf (refusedFor number second place) 0 value ⌝ }
+{
+    Answer {
+        number,
+        second,
+        place,
+        value,
+    }
+}
+
+// A refusal at a place; its second number is 0.
 pub fn refuse(number: u8, place: u16, value: u32) -> Answer
     requires { ⌜ 0 < number ⌝ }
     ensures { λ r. ⌜ r ≡ answerOf (refused number place) 0 value ⌝ }
 {
-    Answer {
-        number,
-        place,
-        value,
-    }
+    refuse_for(number, 0, place, value)
 }
 
 // Checks 6, 20 and 7 to 9, in this order.

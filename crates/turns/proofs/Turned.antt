@@ -13,7 +13,7 @@ use Rattle.rules.specs.Premises.{InOrder, adds, deletes, Clear}
 use Rattle.rules.specs.Plans.{Plan, inPlan, In, Over, Apart, Valid}
 use Rattle.rules.specs.Supports.{Consumer, job, end, Support, start, nobody, by}
 use Rattle.rules.specs.Order.{rank, First}
-use Rattle.rules.proofs.Clash.{Spoils, interfere-at, ordered}
+use Rattle.rules.proofs.Clashing.{Spoils, interfere-at, ordered}
 use Rattle.rules.proofs.Supported.{Supports, Supported, Backed, backed, valid}
 use Rattle.turns.specs.Turns.{Turn, turned, Moves}
 

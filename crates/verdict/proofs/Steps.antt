@@ -7,7 +7,7 @@ use Prim.Native.Nat.{ℕ, zero, suc, _+_, _-_, _≤_, _<_}
 use borrow.Author.Tests.{ne-eqb}
 use native.Mathlib.Numerals.{add-one}
 use native.Mathlib.Omega.{arith}
-use lib.Dec.{T, ltb, eqb→eq}
+use lib.Dec.{T, ltb, ltb→lt, eqb→eq}
 use lib.ListN.{getD}
 use mathlib.Core.List.{List}
 use Rattle.facts.specs.Facts.{has}
@@ -16,8 +16,9 @@ use Rattle.facts.specs.Least.{least, any}
 use Rattle.facts.proofs.Bools.{and-l, and-r, or-at}
 use Rattle.facts.proofs.Least.{least-same}
 use Rattle.rules.specs.Table.{Problem}
-use Rattle.rules.specs.Plans.{Plan, starts, In, inPlan, finish, interfere, ends, afterIf, finishes, holds}
-use Rattle.rules.specs.Verdicts.{overlap, unready}
+use Rattle.rules.specs.Clashes.{interfere}
+use Rattle.rules.specs.Plans.{Plan, starts, In, inPlan, finish, ends, afterIf, finishes, holds}
+use Rattle.rules.specs.Verdicts.{overlap, overlapAbove, clashes, unready}
 use Rattle.rules.proofs.Time.{still}
 use Rattle.tables.specs.declared.Loaded.{Loaded}
 use Rattle.tables.specs.declared.Ask.{Ask}
@@ -83,6 +84,11 @@ unfolding overlap inPlan
 overlap-of l q s i j {g} e =
     regroup (startIn (getD s i 0)) (startIn (getD s j 0)) (ltb (getD s j 0) (getD s i 0 + jobAt l i .duration + g)) (ltb (getD s i 0) (getD s j 0 + jobAt l j .duration + g)) (interfere (problem l q) i j)
     ∙ ap (λ (x : ℕ). startIn (getD s i 0) && (startIn (getD s j 0) && (ltb (getD s j 0) (getD s i 0 + jobAt l i .duration + x) && (ltb (getD s i 0) (getD s j 0 + jobAt l j .duration + x) && interfere (problem l q) i j)))) e
+
+-- the lowest job above with which a job clashes is one of the table
+pub above-below : (P : Problem) (s : Plan) (i : ℕ) {r : ℕ} → T (clashes P s i) → r ≡ least (overlapAbove P s i) (P .count) → r < P .count
+unfolding clashes any
+above-below P s i h e = subst (λ (k : ℕ). k < P .count) (sym e) (ltb→lt _ _ h)
 
 -- what is wanted and not in the word of facts at a time is what is wanted and does not hold then
 pub lacking-same : (f : ℕ → Bool) (want have : ℕ) → Word f have → least (λ p. has want p && not (has have p)) 64 ≡ least (λ p. has want p && not (f p)) 64

@@ -5,14 +5,14 @@ use tables::Loaded;
 ghost use mathlib.Core.Path.{_≡_};
 ghost use mathlib.Core.Bool.{not, _&&_};
 ghost use Prim.Native.Nat.{_+_, _-_, _<_};
-ghost use lib.Dec.{eqb, ltb};
+ghost use lib.Dec.{T, eqb, ltb};
 ghost use lib.ListN.{length};
 ghost use Rattle.facts.specs.Facts.{has};
 ghost use Rattle.facts.specs.Words.{Word};
 ghost use Rattle.facts.specs.Least.{least};
 ghost use Rattle.refusals.specs.Refusals.{accepted};
 ghost use Rattle.rules.specs.Plans.{starts, afterIf, finishes};
-ghost use Rattle.rules.specs.Verdicts.{overlap, clashes, unready, missing, planChecks};
+ghost use Rattle.rules.specs.Verdicts.{overlap, overlapAbove, clashes, clashFact, unready, missing, planChecks};
 ghost use Rattle.tables.specs.Tables.{problem, answerOf};
 ghost use Rattle.tables.specs.Steps.{Judges};
 ghost use Rattle.verdict.specs.Offered.{offered, ChecksPlan};
@@ -130,18 +130,28 @@ fn overlap(l: Loaded, q: Ask, s: &[u16], i: usize, j: usize) -> bool
     false
 }
 
-// Job i overlaps and interferes with a job of a higher number.
-fn clashes(l: Loaded, q: Ask, s: &[u16], i: usize) -> bool
+// The lowest job above i with which it overlaps and interferes, or the job count.
+fn first_above(l: Loaded, q: Ask, s: &[u16], i: usize) -> usize
     requires { ⌜ Given q (now s) × (i < q .jobs) ⌝ }
-    ensures { λ r. ⌜ r ≡ clashes (problem l q) (starts (now (s .entry))) i ⌝ }
+    ensures { λ r. ⌜ r ≡ least (overlapAbove (problem l q) (starts (now (s .entry))) i) (q .jobs) ⌝ }
 {
     let n = q.jobs;
     for j in i + 1..n {
         if overlap(l, q, s, i, j) {
-            return true;
+            return j;
         }
     }
-    false
+    n
+}
+
+// The fact over which job i clashes with that job.
+fn clash_fact(l: Loaded, q: Ask, s: &[u16], i: usize) -> u8
+    requires { ⌜ Given q (now s) × (i < q .jobs) × T (clashes (problem l q) (starts (now s)) i) ⌝ }
+    ensures { λ r. ⌜ r ≡ clashFact (problem l q) (starts (now (s .entry))) i ⌝ }
+{
+    let j = first_above(l, q, s, i);
+    let why = interference::why_clash(tables::job_at(l, i), tables::job_at(l, j));
+    why.fact
 }
 
 // The lowest fact that is wanted and not there, 64 for none.
@@ -188,7 +198,7 @@ fn step_fails(l: Loaded, q: Ask, s: &[u16], i: usize, check: u8) -> bool
         return starts_early(s[i], a.release);
     }
     if check == 12 {
-        return clashes(l, q, s, i);
+        return first_above(l, q, s, i) < q.jobs;
     }
     unready(l, q, s, i)
 }
@@ -231,7 +241,8 @@ fn steps_fault(l: Loaded, q: Ask, s: &[u16]) -> Answer
     }
     let clash = first_step(l, q, s, 12);
     if clash < n {
-        return tables::refuse(12, clash as u16, 0);
+        let fact = clash_fact(l, q, s, clash);
+        return tables::refuse_for(12, fact, clash as u16, 0);
     }
     let unready = first_step(l, q, s, 13);
     if unready < n {

@@ -1,8 +1,37 @@
 //! Slow ways, for the self-test only. To the first plan: every start vector in the stated order, and every order
 //! of jobs with each job as early as the ones before it and its release allow. To estimates and settled starts:
-//! every start vector.
+//! every start vector. To clashes: every fact; to overlaps: every quarter hour.
 
-use crate::rules::{check_plan, facts_seen, finish, interfere, over, Problem, OUT};
+use crate::rules::{check_plan, facts_seen, finish, interfere, is_in, over, Clash, Job, Problem, FACTS, OUT};
+
+/// The first fact, from 0 on, that one of the jobs deletes and the other has among these.
+fn lowest_deleted(a: &Job, b: &Job, among: fn(&Job) -> u64) -> Option<usize> {
+    let has = |word: u64, fact: usize| word >> fact & 1 == 1;
+    let deletes = |one: &Job, other: &Job, fact| has(one.deletions, fact) && has(among(other), fact);
+    (0..FACTS).find(|&fact| deletes(a, b, fact) || deletes(b, a, fact))
+}
+
+/// All facts are looked at for a condition, then all for an addition.
+pub fn clash(a: &Job, b: &Job) -> Clash {
+    let condition = lowest_deleted(a, b, |job| job.conditions).map(Clash::Condition);
+    let addition = || lowest_deleted(a, b, |job| job.additions).map(Clash::Addition);
+    condition.or_else(addition).unwrap_or(Clash::None)
+}
+
+/// The lower job and the fact of the first pair that clashes and takes a quarter hour together, where a job takes
+/// those of the gap behind it too.
+pub fn first_overlap(problem: &Problem, starts: &[u16]) -> Option<(usize, usize)> {
+    let jobs = problem.jobs;
+    let takes = |job: usize, time: u32| {
+        is_in(starts[job])
+            && starts[job] as u32 <= time
+            && time < finish(&jobs[job], starts[job]) + problem.gap as u32
+    };
+    let last = problem.bound as u32 + problem.gap as u32;
+    let together = |a: usize, b: usize| (0..last).any(|time| takes(a, time) && takes(b, time));
+    let pairs = (0..jobs.len()).flat_map(|a| (a + 1..jobs.len()).map(move |b| (a, b)));
+    pairs.filter(|&(a, b)| together(a, b)).find_map(|(a, b)| Some((a, clash(&jobs[a], &jobs[b]).fact()?)))
+}
 
 /// The next value of a start in the stated order: out, 0, 1 and so on, while the job ends by the bound.
 fn next_start(problem: &Problem, job: usize, start: u16) -> Option<u16> {

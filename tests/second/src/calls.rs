@@ -3,7 +3,9 @@
 use crate::files::{job_bytes, job_from, read_file, write_file, Saved};
 use crate::plan::{least_bound, plan_within};
 use crate::readings::{opening_facts, Marks, Reading};
-use crate::rules::{binding_pairs, check_offered, estimates, settle, supports, Given, Job, Refusal, OUT};
+use crate::rules::{
+    binding_pairs, check_offered, clash, estimates, settle, supports, Clash, Given, Job, Refusal, FACTS, OUT,
+};
 use std::io::{self, BufRead, Read, Write};
 
 const WORDS: usize = 16;
@@ -59,11 +61,13 @@ fn hex_of_halves(table: &[u16]) -> String {
     hex(table.iter().flat_map(|half| half.to_le_bytes()))
 }
 
-/// Number, place and value; on refusal the value is the one kept for it.
+/// Number, second number, place and value; on refusal the value is the one kept for it.
 fn told<T: ToString>(result: &Result<T, Refusal>, on_refusal: T) -> String {
     match result {
-        Ok(value) => format!("0 0 {}", value.to_string()),
-        Err(refusal) => format!("{} {} {}", refusal.number, refusal.place, on_refusal.to_string()),
+        Ok(value) => format!("0 0 0 {}", value.to_string()),
+        Err(Refusal { number, second, place }) => {
+            format!("{number} {second} {place} {}", on_refusal.to_string())
+        }
     }
 }
 
@@ -72,6 +76,21 @@ fn told_file(result: &Result<Saved, Refusal>) -> String {
         format!("{} {} {} {} {}", saved.opening, saved.goals, saved.bound, saved.jobs, saved.atoms)
     };
     told(&result.as_ref().map(line).map_err(|refusal| *refusal), line(&Saved::default()))
+}
+
+/// What is said to a call that there is not.
+fn unknown() -> String {
+    "unknown".to_string()
+}
+
+/// The number of the kind and the fact, 64 for none.
+fn told_clash(clash: Clash) -> String {
+    let kind = match clash {
+        Clash::None => 0,
+        Clash::Condition(_) => 1,
+        Clash::Addition(_) => 2,
+    };
+    format!("{kind} {}", clash.fact().unwrap_or(FACTS))
 }
 
 impl Call {
@@ -112,7 +131,8 @@ impl Call {
             8 => self.answer_reader(),
             9 => self.answer_writer(),
             10 => self.answer_readings(),
-            _ => "unknown".to_string(),
+            11 => self.answer_clash(),
+            _ => unknown(),
         }
     }
 
@@ -151,6 +171,13 @@ impl Call {
         let marks = Marks { count: self.head[7], channels, levels: &levels, facts };
         let reading = Reading { temperature: self.head[6], humidity: self.head[12] };
         told(&opening_facts(self.head[3], reading, &marks), self.head[3])
+    }
+
+    fn answer_clash(&self) -> String {
+        match &self.records[..] {
+            [one, other] => told_clash(clash(one, other)),
+            _ => unknown(),
+        }
     }
 }
 

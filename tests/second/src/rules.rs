@@ -1,4 +1,4 @@
-//! The rules: job tables and their checks, valid plans, supports, binding pairs, estimates, settling.
+//! The rules: clashes, job tables and their checks, valid plans, supports, binding pairs, estimates, settling.
 
 /// The start of a job that is out; also an estimate that is never reached.
 pub const OUT: u16 = 65_535;
@@ -34,11 +34,19 @@ pub struct Job {
 #[derive(Clone, Copy, PartialEq, Eq, Debug)]
 pub struct Refusal {
     pub number: u64,
+    /// The fact of refusal 12, 0 in all others.
+    pub second: u64,
     pub place: u64,
 }
 
+/// Any refusal but 12.
 pub fn refuse<T>(number: u64, place: u64) -> Result<T, Refusal> {
-    Err(Refusal { number, place })
+    Err(Refusal { number, second: 0, place })
+}
+
+/// Refusal 12, with the fact of the clash.
+pub fn refuse_overlap<T>(place: usize, fact: usize) -> Result<T, Refusal> {
+    Err(Refusal { number: 12, second: fact as u64, place: place as u64 })
 }
 
 /// A job table as a caller hands it in, before any check.
@@ -76,9 +84,40 @@ pub fn members(mut word: u64) -> impl Iterator<Item = usize> {
     })
 }
 
-/// Two different jobs interfere when one deletes a condition or an addition of the other.
+// Clashes.
+
+/// Why two different jobs interfere: one deletes this condition or this addition of the other.
+#[derive(Clone, Copy, PartialEq, Eq, Debug)]
+pub enum Clash {
+    None,
+    Condition(usize),
+    Addition(usize),
+}
+
+/// The lowest fact of its kind, whichever job deletes it; a condition comes first, however low the addition.
+pub fn clash(a: &Job, b: &Job) -> Clash {
+    let needed = a.deletions & b.conditions | b.deletions & a.conditions;
+    let added = a.deletions & b.additions | b.deletions & a.additions;
+    match (members(needed).next(), members(added).next()) {
+        (Some(fact), _) => Clash::Condition(fact),
+        (None, Some(fact)) => Clash::Addition(fact),
+        (None, None) => Clash::None,
+    }
+}
+
+impl Clash {
+    /// The fact concerned, if there is one.
+    pub fn fact(self) -> Option<usize> {
+        match self {
+            Clash::None => None,
+            Clash::Condition(fact) | Clash::Addition(fact) => Some(fact),
+        }
+    }
+}
+
+/// Two different jobs interfere where they clash.
 pub fn interfere(a: &Job, b: &Job) -> bool {
-    a.deletions & (b.conditions | b.additions) != 0 || b.deletions & (a.conditions | a.additions) != 0
+    clash(a, b) != Clash::None
 }
 
 // Table checks.
@@ -222,13 +261,15 @@ fn check_early_starts(problem: &Problem, starts: &[u16]) -> Result<(), Refusal> 
     }
 }
 
+/// The first pair, by lower then higher job, that clashes and is not apart: its lower job is the place.
 fn check_overlaps(problem: &Problem, starts: &[u16]) -> Result<(), Refusal> {
     let jobs = problem.jobs;
     for a in jobs_in(starts) {
         for b in jobs_in(starts).filter(|&b| b > a) {
             let apart = over(problem, starts, a, b) || over(problem, starts, b, a);
-            if interfere(&jobs[a], &jobs[b]) && !apart {
-                return refuse(12, a as u64);
+            match clash(&jobs[a], &jobs[b]).fact() {
+                Some(fact) if !apart => return refuse_overlap(a, fact),
+                _ => (),
             }
         }
     }

@@ -7,8 +7,8 @@ use crate::files::{job_bytes, read_file, write_file, Saved};
 use crate::plan::{least_bound, plan_within};
 use crate::readings::{opening_facts, tenths, Marks, Reading};
 use crate::rules::{
-    binding_pairs, check_bounded_table, check_offered, check_plan, estimates, job_estimates, pairs_of,
-    settle, supports, Given, Job, Refusal, NO_SUPPORT, OUT, START,
+    binding_pairs, check_bounded_table, check_offered, check_plan, clash, estimates, job_estimates, pairs_of,
+    settle, supports, Clash, Given, Job, Refusal, NO_SUPPORT, OUT, START,
 };
 use crate::{bench, rules};
 use std::process::ExitCode;
@@ -42,6 +42,8 @@ pub fn run() -> ExitCode {
     test_cases_p(&mut tally);
     test_late_crate(&mut tally);
     test_hygiene(&mut tally);
+    test_clashes(&mut tally);
+    test_overlaps(&mut tally);
     test_against_start_vectors(&mut tally);
     test_against_orders(&mut tally);
     test_known_tables_against_orders(&mut tally);
@@ -69,6 +71,11 @@ fn refused<T>(number: u64, place: u64) -> Result<T, Refusal> {
     rules::refuse(number, place)
 }
 
+/// Refusal 12 at this job, over this fact.
+fn overlapping<T>(place: usize, fact: usize) -> Result<T, Refusal> {
+    rules::refuse_overlap(place, fact)
+}
+
 fn plan_of(example: &Example) -> Result<Vec<u16>, Refusal> {
     let mut starts = vec![7; example.jobs.len()];
     plan_within(&example.given(), &mut starts).map(|_| starts)
@@ -91,7 +98,7 @@ fn test_cases_p(tally: &mut Tally) {
     tally.same("P3", least_of(&all), Ok((12, vec![0, 7, 4, 4])));
     let offered = jobs_u(&[2, 3, 4], 12);
     tally.same("P3 is valid", offer(&offered, &[0, 7, 4, 4]), Ok(()));
-    tally.same("P4", offer(&offered, &[0, 6, 4, 4]), refused(12, 1));
+    tally.same("P4", offer(&offered, &[0, 6, 4, 4]), Err(Refusal { number: 12, second: 2, place: 1 }));
     tally.same("P5", plan_of(&jobs_u(&[0], 0)), Ok(vec![OUT; 4]));
     tally.same("P6", plan_of(&jobs_u(&[0, 1], 2_880)), refused(10, 0));
     let mut none = Example { jobs: vec![], atoms: 2, opening: 1, goals: 0, bound: 0 };
@@ -148,6 +155,107 @@ fn test_hygiene(tally: &mut Tally) {
     tally.same("late crate under rule 2", least_of(&late), Ok((14, vec![0, 9, 6, 5])));
     let chained = least_of(&chain(4, true).under_rule_2());
     tally.same("three gaps in a chain of four", chained, Ok((1 + 2 + 3 + 4 + 3, vec![0, 2, 5, 9])));
+}
+
+/// Why two jobs clash: the kind and the lowest fact of that kind.
+fn test_clashes(tally: &mut Tally) {
+    let jobs = jobs_u(&[], 0).jobs;
+    tally.same("drench and wash", clash(&jobs[1], &jobs[3]), Clash::Addition(2));
+    tally.same("unpack and drench", clash(&jobs[0], &jobs[1]), Clash::None);
+    let deletes = job(&[], &[], &[2, 7, 9], 1);
+    tally.same("a condition first", clash(&deletes, &job(&[7], &[2], &[], 1)), Clash::Condition(7));
+    tally.same("the lowest condition", clash(&deletes, &job(&[9, 7, 8], &[], &[], 1)), Clash::Condition(7));
+    tally.same("the lowest addition", clash(&deletes, &job(&[8], &[9, 7, 1], &[], 1)), Clash::Addition(7));
+    let needing = |fact, deleted| job(&[fact], &[], &[deleted], 1);
+    let adding = |fact, deleted| job(&[], &[fact], &[deleted], 1);
+    for (one, other) in [(4, 9), (9, 4)] {
+        let clash_of = |made: &dyn Fn(u64, u64) -> Job| clash(&made(one, other), &made(other, one));
+        tally.same("the lowest condition of both ways", clash_of(&needing), Clash::Condition(4));
+        tally.same("the lowest addition of both ways", clash_of(&adding), Clash::Addition(4));
+    }
+    let crossed = clash(&job(&[9], &[], &[0], 1), &job(&[], &[0], &[9], 1));
+    tally.same("a condition one way, a lower addition the other", crossed, Clash::Condition(9));
+    let (needs, adds) = (job(&[63], &[], &[], 1), job(&[], &[63], &[], 1));
+    let last = job(&[], &[], &[63], 1);
+    tally.same("the last fact needed", clash(&needs, &last), Clash::Condition(63));
+    tally.same("the last fact added", clash(&last, &adds), Clash::Addition(63));
+    for (one, other) in [(&needs, &adds), (&needs, &needs), (&adds, &adds), (&last, &last)] {
+        tally.same("one fact and no clash", clash(one, other), Clash::None);
+    }
+    test_equal_records(tally);
+    test_clashes_by_fact(tally);
+}
+
+/// The same record twice stands for two jobs that are alike.
+fn test_equal_records(tally: &mut Tally) {
+    let alike = |record: Job| clash(&record, &record);
+    tally.same("own condition deleted", alike(job(&[3, 5], &[1], &[5], 1)), Clash::Condition(5));
+    tally.same("adds and deletes", alike(job(&[1], &[6], &[6], 1)), Clash::Addition(6));
+    tally.same("nothing at all", alike(Job::default()), Clash::None);
+    tally.same("deletes nothing", alike(Job { deletions: 0, ..all_facts() }), Clash::None);
+    tally.same("all facts", alike(all_facts()), Clash::Condition(0));
+    tally.same("all facts, none needed", alike(Job { conditions: 0, ..all_facts() }), Clash::Addition(0));
+}
+
+/// Every bit of a record set.
+fn all_facts() -> Job {
+    Job { conditions: u64::MAX, additions: u64::MAX, deletions: u64::MAX, duration: OUT, release: OUT }
+}
+
+/// Drawn records, with facts from a drawn one on, against every fact in turn: either order, and whatever the times.
+fn test_clashes_by_fact(tally: &mut Tally) {
+    let mut dice = Dice(0x00c1_a54e_5fac_7511);
+    for number in 0..20_000 {
+        let above = u64::MAX << dice.below(64);
+        let most = [1, 3, 40][number % 3];
+        let mut word = || dice.facts(most, 64) & above;
+        let (one, other) = (job_of([word(), word(), word()]), job_of([word(), word(), word()]));
+        let found = clash(&one, &other);
+        tally.same("clash by facts", found, brute::clash(&one, &other));
+        tally.same("clash of the two turned round", found, clash(&other, &one));
+        let late = Job { duration: dice.next() as u16, release: dice.next() as u16, ..one };
+        tally.same("clash at other times", found, clash(&late, &other));
+    }
+}
+
+fn job_of([conditions, additions, deletions]: [u64; 3]) -> Job {
+    Job { conditions, additions, deletions, duration: 1, release: 0 }
+}
+
+/// Refusal 12 has the lower job of the first pair and the fact of that pair, whatever clashes behind it.
+fn test_overlaps(tally: &mut Tally) {
+    let jobs = vec![
+        job(&[], &[0], &[6, 3, 8], 2),
+        job(&[], &[6], &[], 2),
+        job(&[8], &[3], &[], 2),
+        job(&[3], &[1], &[6], 2),
+    ];
+    let crowd = Example { jobs, atoms: 9, opening: word(&[3, 8]), goals: 0, bound: 20 };
+    tally.same("the lowest partner", offer(&crowd, &[0, 1, 1, 1]), overlapping(0, 6));
+    tally.same("the next partner", offer(&crowd, &[0, 9, 1, 1]), overlapping(0, 8));
+    tally.same("the last partner", offer(&crowd, &[0, OUT, 9, 1]), overlapping(0, 3));
+    tally.same("a pair without the first job", offer(&crowd, &[9, 0, 0, 1]), overlapping(1, 6));
+    tally.same("apart", offer(&crowd, &[9, 0, 2, 2]), Ok(()));
+    tally.same("touching under rule 2", offer(&crowd.under_rule_2(), &[9, 0, 2, 2]), overlapping(1, 6));
+    tally.same("near under rule 2", offer(&crowd.under_rule_2(), &[2, 9, 4, 4]), overlapping(0, 8));
+    test_overlaps_by_quarter_hours(tally);
+}
+
+/// Drawn plans in which no job ends late or starts before its release, so that what overlaps is refused with 12.
+fn test_overlaps_by_quarter_hours(tally: &mut Tally) {
+    let mut dice = Dice(0x0c7a_95ed_0b5f_ac75);
+    for number in 0..8_000 {
+        let example = Example { bound: 16, ..dice.table(7, 12, 4, 0) };
+        let starts: Vec<u16> = example.jobs.iter().map(|_| dice.below(13) as u16).collect();
+        let example = if number % 2 == 0 { example } else { example.released(&starts) };
+        for example in [example.under_rule_2(), example] {
+            let problem = check_bounded_table(&example.given()).expect("random tables pass the checks");
+            let told = check_plan(&problem, &starts).err().filter(|refusal| refusal.number == 12);
+            let expected = brute::first_overlap(&problem, &starts);
+            let expected = expected.and_then(|(place, fact)| overlapping::<()>(place, fact).err());
+            tally.same("overlaps by quarter hours", told, expected);
+        }
+    }
 }
 
 /// The first plan and the least bound of many small tables, without releases and with them, under both rules, against
@@ -312,7 +420,7 @@ fn test_offered_plans(tally: &mut Tally) {
     tally.same("late", offer(&all, &[0, 11, 9, 4]), refused(11, 1));
     tally.same("far too late", offer(&all, &[65_534, 4, 4, 4]), refused(11, 0));
     tally.same("late before overlap", offer(&all, &[0, 6, 5, 4]), refused(11, 2));
-    tally.same("overlap before condition", offer(&all, &[OUT, 6, 4, 4]), refused(12, 1));
+    tally.same("overlap before condition", offer(&all, &[OUT, 6, 4, 4]), overlapping(1, 2));
     tally.same("condition", offer(&all, &[0, 3, 4, 5]), refused(13, 1));
     tally.same("condition with nothing done", offer(&all, &[OUT, 7, 4, 4]), refused(13, 1));
     tally.same("goals", offer(&all, &[0, 4, 4, 6]), refused(14, 2));
@@ -324,8 +432,8 @@ fn test_offered_plans(tally: &mut Tally) {
         goals: 0,
         bound: 9,
     };
-    tally.same("first pair by lower number", offer(&clash, &[0, 1, 1]), refused(12, 0));
-    tally.same("pair of higher numbers", offer(&clash, &[0, 2, 1]), refused(12, 0));
+    tally.same("first pair by lower number", offer(&clash, &[0, 1, 1]), overlapping(0, 1));
+    tally.same("pair of higher numbers", offer(&clash, &[0, 2, 1]), overlapping(0, 0));
     tally.same("own condition deleted", offer(&clash, &[1, 3, 0]), Ok(()));
     let late = jobs_u(&[2, 3, 4], 14).released(&[0, 8, 6, 5]);
     tally.same("released", offer(&late, &[0, 8, 6, 5]), Ok(()));
@@ -334,7 +442,7 @@ fn test_offered_plans(tally: &mut Tally) {
     tally.same("out before its release", offer(&late, &[OUT, 0, OUT, OUT]), refused(21, 1));
     tally.same("late before early", offer(&late, &[0, 0, 7, 5]), refused(11, 2));
     tally.same("early before overlap", offer(&late, &[0, 8, 5, 7]), refused(21, 2));
-    tally.same("overlap in time", offer(&late, &[0, 8, 6, 7]), refused(12, 1));
+    tally.same("overlap in time", offer(&late, &[0, 8, 6, 7]), overlapping(1, 2));
     tally.same("early before a condition", offer(&late, &[OUT, 8, 6, 4]), refused(21, 3));
     tally.same("early before a goal", offer(&late, &[0, OUT, 5, 5]), refused(21, 2));
 }
@@ -343,11 +451,11 @@ fn test_offered_plans(tally: &mut Tally) {
 fn test_offered_under_rule_2(tally: &mut Tally) {
     let all = jobs_u(&[2, 3, 4], 13).under_rule_2();
     tally.same("a quarter hour apart", offer(&all, &[0, 9, 5, 5]), Ok(()));
-    tally.same("touching", offer(&all, &[0, 8, 5, 5]), refused(12, 1));
-    tally.same("touching the other way", offer(&all, &[0, 5, 5, 7]), refused(12, 1));
+    tally.same("touching", offer(&all, &[0, 8, 5, 5]), overlapping(1, 2));
+    tally.same("touching the other way", offer(&all, &[0, 5, 5, 7]), overlapping(1, 2));
     tally.same("apart the other way", offer(&all, &[0, 5, 5, 8]), refused(14, 2));
     tally.same("a finish just now", offer(&all, &[0, 9, 4, 5]), refused(13, 2));
-    tally.same("touching before a condition", offer(&all, &[0, 8, 4, 5]), refused(12, 1));
+    tally.same("touching before a condition", offer(&all, &[0, 8, 4, 5]), overlapping(1, 2));
     tally.same("late before touching", offer(&all, &[0, 8, 6, 5]), refused(11, 2));
     let early = all.released(&[0, 0, 6, 0]);
     tally.same("early before touching", offer(&early, &[0, 8, 5, 5]), refused(21, 2));
@@ -443,7 +551,7 @@ fn test_deleter_behind(tally: &mut Tally) {
         supports(&example.given(), starts, &mut table).map(|_| table[0])
     };
     tally.same("deleter touching", supported(&example, &[0, 2]), Ok(START));
-    tally.same("deleter touching, rule 2", supported(&example.under_rule_2(), &[0, 2]), refused(12, 0));
+    tally.same("deleter touching, rule 2", supported(&example.under_rule_2(), &[0, 2]), overlapping(0, 0));
     tally.same("deleter behind, rule 2", supported(&example.under_rule_2(), &[0, 3]), Ok(START));
 }
 
@@ -617,7 +725,7 @@ fn test_settling_against_start_vectors(tally: &mut Tally) {
         };
         let mut table = vec![7; problem.jobs.len()];
         let found = settle(&example.given(), set, pairs.len() as u64 / 2, &pairs, &mut table).map(|_| table);
-        let expected = brute::settled(&problem, set, &pairs).ok_or(Refusal { number: 16, place: 0 });
+        let expected = brute::settled(&problem, set, &pairs).map_or(refused(16, 0), Ok);
         tally.same("settled by start vectors", found, expected);
     }
 }
@@ -1026,24 +1134,37 @@ fn test_calls(tally: &mut Tally) {
     let mut readings = head(10, 24f64.to_bits(), 1, 1, 1, 1);
     readings[12] = 50f64.to_bits();
     stream.extend(call_bytes(readings, &jobs, &[0, 240, 0, 6]));
+    stream.extend(call_bytes(head(1, 0, 0, 8, 0, 0), &jobs, &[0, 0, 6, 0, 4, 0, 4, 0]));
+    let own = job(&[1, 40], &[], &[40, 63], 1);
+    for records in [vec![jobs[1], jobs[3]], vec![own, own], vec![own, jobs[0]], vec![own], vec![own; 3]] {
+        let mut clashing = [11; 16];
+        (clashing[8], clashing[9]) = (records.len() as u64, 0);
+        stream.extend(call_bytes(clashing, &records, &[]));
+    }
     let mut output = Vec::new();
     let whole = calls::run(&mut std::io::BufReader::new(&stream[..]), &mut output).is_ok();
     let expected = [
-        "0 0 0",
-        "0 0 0 0000070004000400abab",
-        "20 2 0",
-        "21 1 0",
-        "0 0 12 0000070004000400",
-        "3 0 65535 000000000000",
-        "0 0 13 0000090005000500",
-        "3 0 0 0101",
-        "0 0 0 0000040004000400",
-        "0 0 0 00000400ffffffff",
+        "0 0 0 0",
+        "0 0 0 0 0000070004000400abab",
+        "20 0 2 0",
+        "21 0 1 0",
+        "0 0 0 12 0000070004000400",
+        "3 0 0 65535 000000000000",
+        "0 0 0 13 0000090005000500",
+        "3 0 0 0 0101",
+        "0 0 0 0 0000040004000400",
+        "0 0 0 0 00000400ffffffff",
         &format!(
-            "2 0 0 0 0 0 0 {}",
+            "2 0 0 0 0 0 0 0 {}",
             jobs.iter().flat_map(job_bytes).map(|byte| format!("{byte:02x}")).collect::<String>()
         ),
-        "0 0 65",
+        "0 0 0 65",
+        "12 2 1 0",
+        "2 2",
+        "1 40",
+        "0 64",
+        "unknown",
+        "unknown",
     ];
     tally.same(
         "stream of calls",

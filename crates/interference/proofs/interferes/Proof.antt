@@ -1,8 +1,10 @@
-use mathlib.Core.Path.{sym, _∙_}
+use mathlib.Core.Path.{ap}
+use mathlib.Core.Bool.{not}
 use borrow.Author.Needs.{needs}
 use borrow.Author.Tests.{eq-eqb, ne-eqb}
-use Rattle.facts.proofs.Bools.{or-first, or-next}
-use Rattle.rules.specs.Plans.{spoils, interfere}
+use lib.Dec.{eqb}
+use Rattle.rules.specs.declared.ClashNumbers.{ClashNumbers}
+use Rattle.rules.specs.Clashes.{interfere}
 use Rattle.interference.proofs.interferes.Statement.{statement}
 use Rattle.interference.proofs.interferes.Tie as tie
 
@@ -11,12 +13,8 @@ unfolding interfere
 returns c = λ q. simp (eq-eqb _ _ (c .if1 .taken))
 
 returns-2 : tie.Need-returns-2
-unfolding interfere spoils
-returns-2 c = λ q. simp (ne-eqb _ _ (c .before .before .before .before .if1 .left)) (sym (c .if2 .taken) ∙ or-first _ (c .before .spoils .ensures) (c .if2 .taken))
-
-returns-3 : tie.Need-returns-3
-unfolding interfere spoils
-returns-3 c = λ q. simp (ne-eqb _ _ (c .before .before .before .before .before .if1 .left)) (or-next (c .before .before .spoils .ensures) (c .before .if2 .left) (c .spoils2 .ensures))
+unfolding interfere
+returns-2 c = λ q. simp (ne-eqb _ _ (c .before .before .before .before .if1 .left)) (ap (λ (k : ClashNumbers). not (eqb (k .kind) 0)) (c .before .why-clash .ensures))
 
 pub interferes-spec : {M : Type 1} → statement M
 interferes-spec =
@@ -28,6 +26,4 @@ interferes-spec =
     (λ c. search needs)
     (λ c. search needs)
     (λ c κs. search needs)
-    returns-2
-    (λ c κs. search needs)
-    returns-3)
+    returns-2)

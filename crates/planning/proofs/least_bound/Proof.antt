@@ -15,11 +15,11 @@ least-bound-spec =
     (tie.spec
     (λ c κs. search needs)
     (λ c κs. search needs)
-    (λ c. let a = c .before .before .before .before .before .before .args in bounds-refused (a .l) (a .q) (now (a .out)) (c .before .before .before .call-fault .ensures) (c .before .if1 .taken) (c .refuse .ensures))
+    (λ c. let a = c .before .before .before .before .before .before .args in bounds-refused (a .l) (a .q) (now (a .out)) (c .before .before .before .call-fault .ensures) (c .before .if1 .taken) (c .refuse-for .ensures))
     (λ c κs. c .before .before .call-fault .ensures .order (c .if1 .left) .few)
     (λ c κs. let a = c .before .before .before .before .before .before .before .args in in-reach (a .l) (a .q) (now (a .out)) (c .before .before .before .before .call-fault .ensures) (c .before .before .if1 .left) _ (c .before .enough .ensures))
     (λ c κs. search needs)
-    (λ c. let a = c .before .before .before .before .before .before .before .before .before .before .args in bounds-none (a .l) (a .q) (now (a .out)) (c .before .before .before .before .before .before .before .call-fault .ensures) (c .before .before .before .before .before .if1 .left) _ (c .before .before .before .before .enough .ensures) (c .refuse2 .ensures) (c .before .before .least-within .ensures .none (c .before .if2 .taken)))
+    (λ c. let a = c .before .before .before .before .before .before .before .before .before .before .args in bounds-none (a .l) (a .q) (now (a .out)) (c .before .before .before .before .before .before .before .call-fault .ensures) (c .before .before .before .before .before .if1 .left) _ (c .before .before .before .before .enough .ensures) (c .refuse .ensures) (c .before .before .least-within .ensures .none (c .before .if2 .taken)))
     (λ c κs. (c .before .before .before .before .before .before .before .call-fault .ensures .order (c .before .before .before .before .before .if1 .left) .few, at-most _ _ (c .before .before .before .before .before .before .before .call-fault .ensures .order (c .before .before .before .before .before .if1 .left) .room)))
     (λ c κs. search needs)
     (λ c κs. search needs)
