@@ -96,7 +96,7 @@ passed-by f m n v ne h = go (any f m) h
 then-by : (f : ℕ → Bool) (m n : ℕ) (v : Verdict) → n ≢ 12 → refuseAt f m n v .number ≡ 12 → v .number ≡ 12
 then-by f m n v ne h = ap (λ (w : Verdict). w .number) (sym (passed-by f m n v ne h)) ∙ h
 
--- the check of 12 itself: what it says is so, or the list behind it says 12
+-- the check of 12 itself, where the list behind it does not say 12
 at-twelve : (f : ℕ → Bool) (x : ℕ → ℕ) (m : ℕ) (v : Verdict) → (v .number ≡ 12 → ⊥) → refuseFor f x m 12 v .number ≡ 12
     → (r : ℕ) × (r < m) × T (f r) × (refuseFor f x m 12 v ≡ refusedFor 12 (x r) r)
 unfolding refuseFor
