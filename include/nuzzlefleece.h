@@ -22,9 +22,9 @@
 extern "C" {
 #endif
 
-/* The version that this header describes, 10,000 times the first number, 100 times the second, and the third: 1.3.0.
+/* The version that this header describes, 10,000 times the first number, 100 times the second, and the third: 1.4.0.
  * nuzzlefleece_version() returns that of the library linked; where the two differ, header and library are not of one build. */
-#define NUZZLEFLEECE_VERSION 10300
+#define NUZZLEFLEECE_VERSION 10400
 
 /* Sizes and limits. A fact is a number below the atom count; a word of facts has fact 0 in its lowest bit. */
 enum {
@@ -272,9 +272,9 @@ nuzzlefleece_answer nuzzlefleece_write_file(const nuzzlefleece_action *records, 
 
 /*
  * Opening facts from a reading. A mark is a channel (0 temperature, 1 humidity), a level from -1000 to 1000 tenths and a fact below
- * 64; the first `count` of each table are the marks. A mark is reached when the tenths, the largest whole number not above ten times
- * the float's exact value, are at or above its level. A marked fact is set if every mark on it is reached, else cleared; other facts
- * stay as given. Refusals 3, 17 and 18, with the facts as given.
+ * 64; the first `count` of each table are the marks. A mark is reached when the tenths, the nearest whole number to ten times the
+ * float's exact value, halves going up, are at or above its level: 2.3 has 23, 0.25 has 3, -0.25 has -2. A marked fact is set if every
+ * mark on it is reached, else cleared; other facts stay as given. Refusals 3, 17 and 18, with the facts as given.
  */
 nuzzlefleece_opening nuzzlefleece_opening_facts(nuzzlefleece_reading reading, const uint8_t *channels, size_t channels_lent,
     const int16_t *levels, size_t levels_lent, const uint8_t *facts, size_t facts_lent, size_t count, uint64_t given);

@@ -357,13 +357,20 @@ static void opens(const char *what, nuzzlefleece_opening o, unsigned number, uns
 static void answers_readings(void) {
     uint8_t channels[] = {0, 1}, facts[] = {3, 63};
     int16_t levels[] = {240, -1};
-    nuzzlefleece_reading just = {24.000000000000004, -0.05}, under = {23.999999999999996, -0.15}, none = {0.0, 0.0};
+    nuzzlefleece_reading just = {23.950000000000003, -0.15}, under = {23.95, -0.15000000000000002}, none = {0.0, 0.0};
+    nuzzlefleece_reading outside = {2.3, 0.35}, halves = {0.25, -0.25};
     opens("both reached", nuzzlefleece_opening_facts(just, channels, 2, levels, 2, facts, 2, 2, 5), 0, 0, 5 | FACT(3) | FACT(63));
     opens("neither", nuzzlefleece_opening_facts(under, channels, 2, levels, 2, facts, 2, 2, 13), 0, 0, 5);
     opens("no marks", nuzzlefleece_opening_facts(just, NULL, 0, NULL, 0, NULL, 0, 0, 5), 0, 0, 5);
     opens("one level short", nuzzlefleece_opening_facts(just, channels, 2, levels, 1, facts, 2, 2, 5), NUZZLEFLEECE_LENT_TOO_SHORT, 0, 5);
     none.humidity /= none.temperature;
     opens("not a number", nuzzlefleece_opening_facts(none, channels, 2, levels, 2, facts, 2, 2, 5), NUZZLEFLEECE_READING_WRONG, 1, 5);
+    levels[0] = 23, levels[1] = 4;
+    opens("2.3 has 23, 0.35 has 3", nuzzlefleece_opening_facts(outside, channels, 2, levels, 2, facts, 2, 2, 5), 0, 0, 5 | FACT(3));
+    levels[0] = 3, levels[1] = -2;
+    opens("halves go up", nuzzlefleece_opening_facts(halves, channels, 2, levels, 2, facts, 2, 2, 5), 0, 0, 5 | FACT(3) | FACT(63));
+    levels[0] = 4, levels[1] = -1;
+    opens("and by one", nuzzlefleece_opening_facts(halves, channels, 2, levels, 2, facts, 2, 2, 5), 0, 0, 5);
     levels[1] = 1001;
     opens("a level of 1001", nuzzlefleece_opening_facts(just, channels, 2, levels, 2, facts, 2, 2, 5), NUZZLEFLEECE_MARK_WRONG, 1, 5);
 }

@@ -24,6 +24,7 @@ SEED, DRAWN = 20040725, 7000
 LATE_SEED, LATE_DRAWN = 20050725, 800
 GAP_SEED, GAP_DRAWN = 20060725, 600
 CLASH_SEED = 20070725
+TENTHS_SEED = 20080725
 
 
 def planned_table(dice, crates):
@@ -305,17 +306,22 @@ def mixed(seed, walks, count=0, crates=ON_TIME):
 
 def corpus():
     """The fixed calls: those that stood before there were releases, unchanged, behind them those with releases, those
-    under rule 2, and last those on clashes."""
+    under rule 2, those on clashes, and last those beside halves of a tenth."""
     return (mixed(SEED, WALKS, DRAWN, ON_TIME) + mixed(LATE_SEED, releases.WALKS, LATE_DRAWN, LATE)
-            + mixed(GAP_SEED, gaps.WALKS, GAP_DRAWN, HYGIENE) + mixed(CLASH_SEED, clashes.WALKS))
+            + mixed(GAP_SEED, gaps.WALKS, GAP_DRAWN, HYGIENE) + mixed(CLASH_SEED, clashes.WALKS)
+            + mixed(TENTHS_SEED, (readings.beside_halves,)))
 
 
 def more(count, seed):
-    """A tenth of the calls on clashes; of the others half under rule 2, half of all on tables with releases."""
+    """A tenth of the calls on clashes, one in fifty beside halves of a tenth; of the others half under rule 2, half of all on
+    tables with releases."""
     dice = random.Random(seed)
     for _ in range(count):
-        if dice.random() < 0.1:
+        chance = dice.random()
+        if chance < 0.1:
             yield dice.choice(clashes.DRAWN)(dice)
+        elif chance < 0.12:
+            yield readings.rounded(dice)
         else:
             yield from drawn(dice, 1, dice.choice((ON_TIME, LATE, HYGIENE, HYGIENE)))
 

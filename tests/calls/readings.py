@@ -33,6 +33,11 @@ def near_tenth(dice):
     return max(bits & SIGN, bits + dice.choice((-1, 0, 1)))
 
 
+def beside(dice, twentieth):
+    """The float nearest a twentieth that is not zero, or its neighbour."""
+    return bits_of(twentieth / 20) + dice.choice((-1, 0, 1))
+
+
 def some_float(dice):
     chance = dice.random()
     if chance < 0.45:
@@ -45,11 +50,12 @@ def some_float(dice):
 
 
 def level_near(dice, bits):
-    """A level at the tenths of the float, one off, or any; any too where the float is out of range."""
+    """A level at ten times the float, rounded down, one off, or any; any too where the float is out of range. The tenths are what is
+    rounded down, or one more."""
     if bits & ~SIGN > HUNDRED or dice.random() < 0.2:
         return dice.randint(-1000, 1000)
-    tenths = Fraction(value_of(bits)) * 10 // 1
-    return max(-1000, min(1000, tenths + dice.choice((-1, 0, 0, 1))))
+    down = Fraction(value_of(bits)) * 10 // 1
+    return max(-1000, min(1000, down + dice.choice((-1, 0, 0, 1))))
 
 
 def readings_call(floats, marks, count=None, facts=0, lengths=None):
@@ -119,6 +125,21 @@ def every_bad_mark(dice):
             marks[at] = bad_mark(dice, marks[at])
         yield readings_call((0, 0), marks, facts=5)
         yield readings_call((0, 0), marks, place, facts=5)
+
+
+def rounded(dice, twentieths=None):
+    """Two floats at or beside halves of a tenth, each with the marks around its tenths, a fact a mark."""
+    first, second = twentieths or (dice.randrange(-1999, 2000, 2) for _ in range(2))
+    floats = beside(dice, first), beside(dice, second)
+    levels = [(channel, (twentieth - 1) // 2 + more) for channel, twentieth in enumerate((first, second)) for more in (-1, 0, 1, 2)]
+    marks = [(channel, max(-1000, min(1000, level)), fact) for fact, (channel, level) in enumerate(levels)]
+    return readings_call(floats, marks, facts=dice.getrandbits(64))
+
+
+def beside_halves(dice):
+    """Every half of a tenth from -99.95 to 99.95, on either channel."""
+    for twentieth in range(-1999, 2000, 2):
+        yield rounded(dice, (twentieth, -twentieth))
 
 
 def walk(dice):

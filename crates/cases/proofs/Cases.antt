@@ -60,6 +60,10 @@ all-hold =
     also refuses-ok (omega arith) refl
     also takes-ok refl
     also refuses-ok (omega arith) refl
+    -- Two
+    also tenths-ok tt refl
+    also tenths-ok tt refl
+    also tenths-ok tt refl
     -- Five
     also least-ok refl refl tt tt
     also estimates-ok refl tt

@@ -26,7 +26,7 @@ use Rattle.rules.proofs.Judged.{judged}
 use Rattle.rules.proofs.Early.{estimates-only}
 use Rattle.rules.proofs.Orders.{wider, planned-only, bounded-only}
 use Rattle.tenths.specs.Tenths.{inRange, AreTenths, tenths}
-use Rattle.tenths.proofs.Largest.{tenths-are}
+use Rattle.tenths.proofs.Nearest.{tenths-are}
 use Rattle.cases.specs.Claims.{tableAndBound, Taken, RefusedWith, Plans, Refuses10, LeastIs, Judged, Touch, HasTenths, EstimatesAre}
 use Rattle.cases.proofs.Refute.{hopeless}
 use Rattle.cases.proofs.Firsts.{noneBefore, none, first, below-least}
@@ -119,7 +119,7 @@ touch-ok {P} {s} {a} {b} l m i c e = record {
 }
 
 pub tenths-ok : {x : Float} {t : ℤ} → T (inRange x) → tenths x ≡ t → HasTenths x t
-tenths-ok {x} {t} h e = record { ranged = h; largest = subst (AreTenths x) e (tenths-are x) }
+tenths-ok {x} {t} h e = record { ranged = h; are = subst (AreTenths x) e (tenths-are x) }
 
 -- the numbers are what the rules make of them, job by job
 unfoldable pub solves : Problem → (est : ℕ → ℕ) → Bool

@@ -106,16 +106,15 @@ cases =
     ∷ noPlan (problemOf [] 2 (0 ∷ []) (1 ∷ [])) 0
     -- P8: bound 12: refusal 10, since go is wanted twice
     ∷ noPlan trolley 12
-    -- P9: 24.000000000000004 has 240 tenths
+    -- P9, as Two amends it: 24.000000000000004 and 23.999999999999996 have 240 tenths
     ∷ tenths (float 0x4038_0000_0000_0001) (pos 240)
-    -- P9: 23.999999999999996 has 239
-    ∷ tenths (float 0x4037_ffff_ffff_ffff) (pos 239)
+    ∷ tenths (float 0x4037_ffff_ffff_ffff) (pos 240)
     -- P10: negative zero has 0
     ∷ tenths (float 0x8000_0000_0000_0000) (pos 0)
     -- P10: -0.05 has -1
     ∷ tenths (float 0xbfa9_9999_9999_999a) (negℤ (pos 1))
-    -- P10: the negative float nearest zero has -1
-    ∷ tenths (float 0x8000_0000_0000_0001) (negℤ (pos 1))
+    -- P10, as Two amends it: the negative float nearest zero has 0
+    ∷ tenths (float 0x8000_0000_0000_0001) (pos 0)
     -- P11: duration 960 is taken
     ∷ takes (warming 960) 12
     -- P11: 961 is refused with 6 and the job's place
@@ -124,6 +123,11 @@ cases =
     ∷ takes (U (2 ∷ 3 ∷ [])) 2880
     -- P11: 2,881 is refused with 9
     ∷ refuses (U (2 ∷ 3 ∷ [])) 2881 9 0
+    -- Two: 2.3 has 23
+    ∷ tenths (float 0x4002_6666_6666_6666) (pos 23)
+    -- Two: 0.25 has 3, -0.25 has -2: halves go up
+    ∷ tenths (float 0x3fd0_0000_0000_0000) (pos 3)
+    ∷ tenths (float 0xbfd0_0000_0000_0000) (negℤ (pos 2))
     -- Five: warm released at 6: least bound 14, starts 0, 7, 6, 4
     ∷ least (warmFrom 6) 14 (0 ∷ 7 ∷ 6 ∷ 4 ∷ [])
     -- Five: the estimates are 0, 4, 6, 4

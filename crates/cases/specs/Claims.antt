@@ -91,10 +91,10 @@ pub record Touch (P : Problem) (s : Plan) (a b : ℕ) : Type 0 where
   pub clash : T (interfere P a b)
   pub touch : finish P s a ≡ s b
 
--- the float is in range, and t is the largest whole number not above ten times its exact value
+-- the float is in range, and t is the nearest whole number to ten times its exact value, halves going up
 pub record HasTenths (x : Float) (t : ℤ) : Type 0 where
   pub ranged : T (inRange x)
-  pub largest : AreTenths x t
+  pub are : AreTenths x t
 
 -- the numbers solve the rules of the estimates, and no others do
 pub record EstimatesAre (P : Problem) (est : ℕ → ℕ) : Type 0 where

@@ -2,6 +2,6 @@
 -- Assumes nothing.
 use Prim.Native.Nat.{ℕ}
 
--- 1.3.0, as the header has it
+-- 1.4.0, as the header has it
 abbrev pub version : ℕ
-version = 10300
+version = 10400

@@ -29,7 +29,7 @@ use tables::Loaded;
 pub extern "C" fn nuzzlefleece_version() -> u32
     ensures { λ r. ⌜ r ≡ version ⌝ }
 {
-    10300
+    10400
 }
 
 // The verdict on an offered plan.

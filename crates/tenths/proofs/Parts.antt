@@ -5,17 +5,17 @@ use Prim.Native.Nat.{ℕ, zero, suc, _+_, _-_, _*_, _%_, _^_, _≤_, _<_, min, z
 use native.Mathlib.Nat.{le-trans, le-of-eq, lt-of-lt-of-le, lt-of-le-of-lt, lt-of-not-le, lt-irrefl, mul-one, one-mul, mul-comm, mul-assoc, mul-le-mul-left, mul-le-mul-right, eq-of-mul-eq-mul-right, add-zero, le-suc, zero-div, div-le-of-le-mul}
 use native.Mathlib.Omega.{arith}
 use native.Mathlib.Decide.{decLe}
-use lib.IntN.{ℤ, pos, negsuc, negℤ, _*ℤ_}
+use lib.IntN.{ℤ, pos, negsuc, negℤ, _+ℤ_, _*ℤ_}
 use lib.Signed.{shrZ, mag}
 use lib.Dec.{T, leb, ltb, eqb, leb→le, eqb→eq, lit<, lit≤}
-use lib.Pow.{pow-add, pow-mono, pow-lt}
+use lib.Pow.{pow-add, pow-mono, pow-lt, pow-pos}
 use lib.Ieee.{Float, nan, inf, fin, binary64, up, down, odd, fits, ofFields, ofBits, toBits}
 use lib.Ieee.Fits.{down-pos, and-l, and-r}
 use lib.Ieee.Bits.{ofBits-toBits}
 use lib.Ieee.Exact.{HasValue, odd-sign}
-use Rattle.tenths.specs.Tenths.{one, signed, partsIn, parts, inRange}
+use Rattle.tenths.specs.Tenths.{one, halfOne, signed, partsIn, parts, inRange, tenths}
 use Rattle.tenths.specs.Bits.{field, digitsOf, placeOf, dropOf, floorTimes}
-use Rattle.tenths.proofs.Floor.{cut, few, times-neg}
+use Rattle.tenths.proofs.Floor.{cut, few, times-neg, neg-times, half-up}
 
 -- ---- parts over one are the value
 
@@ -112,6 +112,19 @@ worked c x f r h =
     let z = sized-bits x f r in
     cut (leb (2 ^ 63) b) c (digitsOf b) (placeOf b) (digits-few c b h) (place-le (b % 2 ^ 52) (field b) (z .within))
     ∙ ap (λ (y : ℤ). shrZ (pos c *ℤ y) one) (sym (z .are))
+
+-- ---- half of twenty times the value and one, each rounded down, are the tenths
+
+twice : (n : ℕ) → 10 * n * 2 ≡ 20 * n
+twice n = omega arith
+
+doubled : (z : ℤ) → (pos 10 *ℤ z) *ℤ pos 2 ≡ pos 20 *ℤ z
+doubled (pos a) = ap pos (twice a)
+doubled (negsuc a) = neg-times (10 * suc a) 2 ∙ ap (λ (n : ℕ). negℤ (pos n)) (twice (suc a))
+
+pub halved : (x : Float) → shrZ (floorTimes 20 x +ℤ pos 1) 2 ≡ tenths x
+unfolding tenths floorTimes
+halved x = sym (half-up (pos 10 *ℤ parts x) halfOne (pow-pos 1073) ∙ ap (λ (z : ℤ). shrZ (shrZ z one +ℤ pos 1) 2) (doubled (parts x)))
 
 -- ---- c times a value from -100 to 100 is at most c hundreds in size
 

@@ -5,25 +5,25 @@ use native.Mathlib.Omega.{arith}
 use lib.IntN.{pos}
 use lib.Dec.{T}
 use Rattle.tenths.specs.Tenths.{inRange, AreTenths, tenths}
-use Rattle.tenths.specs.Rounding.{float, twoThree, roundedTenths}
-use Rattle.tenths.proofs.Largest.{tenths-only}
+use Rattle.tenths.specs.Rounding.{float, thirtyFive, roundedTenths}
+use Rattle.tenths.proofs.Nearest.{tenths-only}
 
--- 2.3 is in range and has 22 tenths; the rounded product, cut, gives 23
-pub two-three-in : T (inRange twoThree)
+-- 0.35 is in range and has 3 tenths; the nearest to the rounded product is 4
+pub thirty-five-in : T (inRange thirtyFive)
 unfolding inRange float
-two-three-in = tt
+thirty-five-in = tt
 
-pub two-three : tenths twoThree ≡ pos 22
+pub thirty-five : tenths thirtyFive ≡ pos 3
 unfolding tenths float
-two-three = refl
+thirty-five = refl
 
-pub two-three-rounded : roundedTenths twoThree ≡ pos 23
+pub thirty-five-rounded : roundedTenths thirtyFive ≡ pos 4
 unfolding roundedTenths
-two-three-rounded = refl
+thirty-five-rounded = refl
 
 -- so rounding the product breaks the rule
-pub rounded-breaks : AreTenths twoThree (roundedTenths twoThree) → ⊥
+pub rounded-breaks : AreTenths thirtyFive (roundedTenths thirtyFive) → ⊥
 rounded-breaks h =
-    let same : roundedTenths twoThree ≡ tenths twoThree = tenths-only twoThree (roundedTenths twoThree) h in
-    let never : _≡_ {A = ℕ} 0 1 = cc (two-three, two-three-rounded) in
+    let same : roundedTenths thirtyFive ≡ tenths thirtyFive = tenths-only thirtyFive (roundedTenths thirtyFive) h in
+    let never : _≡_ {A = ℕ} 0 1 = cc (thirty-five, thirty-five-rounded) in
     omega arith

@@ -1,18 +1,19 @@
 -- A float by its pattern, and the error of rounding the product. Definitions only.
 use Prim.Native.Nat.{ℕ}
 use lib.IntN.{ℤ}
-use lib.Ieee.{Float, binary64, ofBits, mul, toSigned}
+use lib.Ieee.{Float, binary64, ofBits, mul}
+use Rattle.tenths.specs.Tenths.{parts, nearest}
 
 -- the float of a pattern
 unfoldable pub float : ℕ → Float
 unfolding ofBits
 float b = ofBits binary64 b
 
--- 2.3, which lies a hair below 23 tenths
-abbrev pub twoThree : Float
-twoThree = float 0x4002_6666_6666_6666
+-- 0.35, which lies a hair below three tenths and a half
+abbrev pub thirtyFive : Float
+thirtyFive = float 0x3fd6_6666_6666_6666
 
--- the error: ten times the reading as a float, then cut, as `(10.0 * x) as i16` would
+-- the error: ten times the reading as a float, then the nearest whole number
 unfoldable pub roundedTenths : Float → ℤ
-unfolding mul toSigned float
-roundedTenths x = toSigned 15 (mul binary64 (float 0x4024_0000_0000_0000) x)
+unfolding mul float parts
+roundedTenths x = nearest (parts (mul binary64 (float 0x4024_0000_0000_0000) x))

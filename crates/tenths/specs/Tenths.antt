@@ -1,8 +1,9 @@
 -- Tenths of a 64-bit float, stated over whole numbers. Definitions only.
-use Prim.Native.Nat.{ℕ, suc, _+_, _-_, _*_, _^_}
+use mathlib.Core.Path.{_≡_}
+use Prim.Native.Nat.{ℕ, suc, _+_, _-_, _*_, _^_, _≤_}
 use mathlib.Core.Bool.{Bool, true, false, cond}
 use lib.Dec.{leb}
-use lib.IntN.{ℤ, pos, negsuc, negℤ, _*ℤ_}
+use lib.IntN.{ℤ, pos, negsuc, negℤ, natAbs, _+ℤ_, _-ℤ_, _*ℤ_}
 use lib.Signed.{shrZ, _≤ℤ_}
 use lib.Ieee.{Float, nan, inf, fin}
 use Rattle.tenths.specs.declared.Measured.{Measured}
@@ -10,6 +11,10 @@ use Rattle.tenths.specs.declared.Measured.{Measured}
 -- 2 ^ 1074 parts make one
 abbrev pub one : ℕ
 one = 2 ^ 1074
+
+-- half as many make a half
+abbrev pub halfOne : ℕ
+halfOne = 2 ^ 1073
 
 -- a size with its sign, true for negative
 abbrev pub signed : Bool → ℕ → ℤ
@@ -33,24 +38,32 @@ inRange nan = false
 inRange (inf s) = false
 inRange (fin s m e) = leb (partsIn m e) (100 * one)
 
--- t is the largest whole number not above n / d
-pub record Largest (n : ℤ) (d : ℕ) (t : ℤ) : Type 0 where
-  pub not-above : (t *ℤ pos d) ≤ℤ n
-  pub largest : (u : ℤ) → (u *ℤ pos d) ≤ℤ n → u ≤ℤ t
+-- how many parts n parts are from t whole ones
+abbrev pub farFrom : (n t : ℤ) → ℕ
+farFrom n t = natAbs (n -ℤ t *ℤ pos one)
 
--- what is cut to whole tenths: ten times the exact value, in parts
+-- t is the nearest whole number to n parts, halves going up: none is nearer, and none as near is higher
+pub record IsNearest (n t : ℤ) : Type 0 where
+  pub none-nearer : (u : ℤ) → farFrom n t ≤ farFrom n u
+  pub none-higher : (u : ℤ) → farFrom n u ≡ farFrom n t → u ≤ℤ t
+
+-- ten times the exact value, in parts
 unfoldable pub tenfold : Float → ℤ
 unfolding parts
 tenfold x = pos 10 *ℤ parts x
 
--- t are the tenths of x: the largest whole number not above ten times its exact value
+-- t are the tenths of x: the nearest whole number to ten times its exact value, halves going up
 abbrev pub AreTenths : Float → ℤ → Type 0
-AreTenths x t = Largest (tenfold x) one t
+AreTenths x t = IsNearest (tenfold x) t
 
--- those tenths, computed: `shrZ n d` is n / d rounded down
+-- the nearest whole number, computed: a half is added, and `shrZ n d` is n / d rounded down
+abbrev pub nearest : ℤ → ℤ
+nearest n = shrZ (n +ℤ pos halfOne) one
+
+-- the tenths, computed
 unfoldable pub tenths : Float → ℤ
 unfolding tenfold
-tenths x = shrZ (tenfold x) one
+tenths x = nearest (tenfold x)
 
 -- what measuring a float gives: whether it is in range, and its tenths, 0 if it is not
 abbrev pub measured : Float → Measured

@@ -72,12 +72,12 @@ fn in_range(x: f64) -> bool
     if x >= -100.0 { x <= 100.0 } else { false }
 }
 
-// The rule of the tenths: this line, and `tenfold`.
+// The rule of the tenths: half of twenty times the value and one, each rounded down.
 fn tenths_of(x: f64) -> i16
     requires { ⌜ T (inRange x) ⌝ }
     ensures { λ r. ⌜ r ≡ tenths x ⌝ }
 {
-    floor_times(10, x) as i16
+    shifted(floor_times(20, x) + 1, 1) as i16
 }
 
 // Whether a float is in range, and its tenths.

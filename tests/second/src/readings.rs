@@ -43,18 +43,16 @@ fn take_apart(bits: u64) -> (u64, u32) {
     }
 }
 
-/// The largest whole number not above ten times the exact value, for a float in range.
+/// The nearest whole number to ten times the exact value, halves going up, for a float in range.
 pub fn tenths(bits: u64) -> i32 {
     let (whole, shift) = take_apart(bits);
-    let ten = 10 * whole;
-    // Ten times a fraction of 53 bits is below 2 to the power of 57, so a longer shift leaves nothing whole.
+    // Ten times a fraction of 53 bits is below 2 to the power of 57, so with a longer shift it is less than a half.
     let shift = shift.min(63);
-    let down = ten >> shift;
-    let exact = down << shift == ten;
+    let (ten, half) = (10 * whole, 1u64 << (shift - 1));
     match bits & SIGN {
-        0 => down as i32,
-        _ if exact => -(down as i32),
-        _ => -(down as i32) - 1,
+        0 => ((ten + half) >> shift) as i32,
+        // Below zero up is towards zero: of the size, more than a half counts as one.
+        _ => -(((ten + half - 1) >> shift) as i32),
     }
 }
 

@@ -107,10 +107,14 @@ fn test_cases_p(tally: &mut Tally) {
     tally.same("P7 with a goal", plan_of(&none), refused(10, 0));
     tally.same("P8", plan_of(&go_twice()), refused(10, 0));
     tally.same("P9 above", tenths(24.000000000000004f64.to_bits()), 240);
-    tally.same("P9 below", tenths(23.999999999999996f64.to_bits()), 239);
+    tally.same("P9 below", tenths(23.999999999999996f64.to_bits()), 240);
     tally.same("P10 negative zero", tenths((-0.0f64).to_bits()), 0);
     tally.same("P10 -0.05", tenths((-0.05f64).to_bits()), -1);
-    tally.same("P10 nearest zero", tenths(1 << 63 | 1), -1);
+    tally.same("P10 nearest zero", tenths(1 << 63 | 1), 0);
+    tally.same("Two, 2.3", tenths(2.3f64.to_bits()), 23);
+    tally.same("Two, 0.25", tenths(0.25f64.to_bits()), 3);
+    tally.same("Two, -0.25", tenths((-0.25f64).to_bits()), -2);
+    tally.same("0.35", tenths(0.35f64.to_bits()), 3);
     let long = |duration, bound| Example {
         jobs: vec![job(&[], &[0], &[], duration)],
         atoms: 1,
@@ -1000,7 +1004,7 @@ fn big_at_most(a: &Big, b: &Big) -> bool {
     a.iter().rev().le(b.iter().rev())
 }
 
-/// Counts whole tenths over the parts of which 2^1074 make one.
+/// Counts whole tenths over the parts of which 2^1074 make one, then holds what is left to a half.
 fn slow_tenths(bits: u64) -> i32 {
     let exponent = (bits >> 52 & 0x7ff) as usize;
     let fraction = bits & ((1 << 52) - 1);
@@ -1019,19 +1023,20 @@ fn slow_tenths(bits: u64) -> i32 {
             false => high = middle,
         }
     }
+    let twenty = big_times(&parts, 20);
+    let and_a_half = big_times(&one, 2 * low + 1);
     match bits >> 63 {
-        0 => low as i32,
-        _ if big_times(&one, low) == ten => -(low as i32),
-        _ => -(low as i32) - 1,
+        0 => low as i32 + big_at_most(&and_a_half, &twenty) as i32,
+        _ => -(low as i32) - !big_at_most(&twenty, &and_a_half) as i32,
     }
 }
 
 fn test_tenths(tally: &mut Tally) {
-    for tenth in -1_000i32..=1_000 {
-        let nearest: f64 = format!("{tenth}e-1").parse().expect("a number");
-        for bits in [nearest.to_bits() - (tenth != 0) as u64, nearest.to_bits(), nearest.to_bits() + 1] {
+    for twentieth in -2_000i32..=2_000 {
+        let nearest: f64 = format!("{}e-2", 5 * twentieth).parse().expect("a number");
+        for bits in [nearest.to_bits() - (twentieth != 0) as u64, nearest.to_bits(), nearest.to_bits() + 1] {
             if bits & !(1 << 63) <= 100f64.to_bits() {
-                tally.same("tenths near a tenth", tenths(bits), slow_tenths(bits));
+                tally.same("tenths near a twentieth", tenths(bits), slow_tenths(bits));
             }
         }
     }
@@ -1072,7 +1077,7 @@ fn test_marks(tally: &mut Tally) {
     tally.same("no marks", facts(20.0, 50.0, &[]), Ok(0b1010));
     tally.same("reached", facts(24.000000000000004, 50.0, &[(0, 240, 0), (1, 501, 1)]), Ok(0b1001));
     tally.same("all of both", facts(24.0, 50.0, &[(0, 240, 0), (1, 501, 0), (1, 500, 2)]), Ok(0b1110));
-    tally.same("missed", facts(23.999999999999996, 50.0, &[(0, 240, 3), (0, 239, 63)]), Ok(0b0010 | 1 << 63));
+    tally.same("missed", facts(23.949999999999996, 50.0, &[(0, 240, 3), (0, 239, 63)]), Ok(0b0010 | 1 << 63));
     tally.same("ends of the range", facts(-100.0, 100.0, &[(0, -1_000, 0), (1, 1_000, 2)]), Ok(0b1111));
     let above = f64::from_bits(100f64.to_bits() + 1);
     for strange in [f64::NAN, f64::INFINITY, -f64::INFINITY, above, -above, f64::MAX] {
