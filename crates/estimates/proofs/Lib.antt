@@ -1,2 +1,4 @@
 pub mod Laws
+pub mod Walked
 pub mod Only
+pub mod Few

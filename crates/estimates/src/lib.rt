@@ -1,14 +1,19 @@
-// Earliest estimates: from 65,535 downwards until a round changes nothing.
+// Earliest estimates: from 65,535 downwards, round by round, until no job has a condition that got cheaper.
 ghost use mathlib.Core.Path.{_≡_};
-ghost use mathlib.Core.Bool.{cond};
-ghost use Prim.Native.Nat.{_≤_, _<_, min, max};
+ghost use mathlib.Core.Bool.{cond, _&&_};
+ghost use Prim.Native.Nat.{_≤_, _<_, max};
+ghost use lib.Dec.{eqb, ltb};
+ghost use lib.ListN.{length};
 ghost use Rattle.facts.specs.Facts.{has};
+ghost use Rattle.facts.specs.Least.{any};
+ghost use Rattle.facts.specs.Words.{Word};
 ghost use Rattle.rules.specs.Estimates.{plus, Estimates};
 ghost use Rattle.tables.specs.Tables.{problem};
 ghost use Rattle.tables.specs.Steps.{Released};
 ghost use Rattle.entries.specs.Entries.{entry};
-ghost use Rattle.estimates.specs.Rounds.{greatest, lagging, Costs, CostOf, NextRound};
+ghost use Rattle.estimates.specs.Rounds.{greatest, lagging, Costs, CostOf, NextRound, Lowers, Cheaper, opened, looked, Rests, Round};
 ghost use Rattle.estimates.specs.Earliest.{Earliest};
+use tables::Action;
 use tables::Answer;
 use tables::Ask;
 use tables::Loaded;
@@ -24,77 +29,86 @@ pub fn plus(e: u16, d: u16) -> u16
     65535
 }
 
-fn lower(a: u16, b: u16) -> u16
-    ensures { λ r. ⌜ r ≡ min a b ⌝ }
-{
-    if a < b {
-        return a;
-    }
-    b
-}
-
-// What fact p costs by a job with these additions, this estimate and this duration.
-fn cost_by(add: u64, p: usize, e: u16, d: u16) -> u16
+// Fact p costs c at most from now on; the word, with p if it got cheaper.
+fn lower_one(p: usize, c: u16, costs: &mut [u16; 64], cheaper: u64) -> u64
     requires { ⌜ p < 64 ⌝ }
-    ensures { λ r. ⌜ r ≡ cond (has add p) (plus e d) 65535 ⌝ }
+    ensures { λ r. ⌜ Lowers (λ f. eqb f p) c cheaper (now (costs .entry)) (now (costs .exit)) r ⌝ }
 {
-    if facts::has(add, p) {
-        return plus(e, d);
+    if c < costs[p] {
+        costs[p] = c;
+        return facts::with(cheaper, p);
     }
-    65535
+    cheaper
 }
 
-// What fact p costs, with a lag where it is not open.
-fn cost(l: Loaded, q: Ask, est: [u16; 24], lag: u16, p: usize) -> u16
-    requires { ⌜ (q .jobs ≤ 24) × (p < 64) ⌝ }
-    ensures { λ r. ⌜ r ≡ lagging (problem l q) (entry est) lag p ⌝ }
+// Every fact of w costs c at most from now on; the word, with those that got cheaper.
+fn lower(w: u64, c: u16, costs: &mut [u16; 64], cheaper: u64) -> u64
+    ensures { λ r. ⌜ Lowers (has w) c cheaper (now (costs .entry)) (now (costs .exit)) r ⌝ }
 {
-    if facts::has(q.opening, p) {
-        return 0;
-    }
-    let n = q.jobs;
-    let mut best: u16 = 65535;
-    for k in 0..n {
-        let a = l.jobs[k];
-        let by = cost_by(a.additions, p, est[k], a.duration);
-        best = lower(by, best);
-    }
-    plus(best, lag)
-}
-
-// What every fact costs, with a lag where it is not open.
-fn costs(l: Loaded, q: Ask, est: [u16; 24], lag: u16) -> [u16; 64]
-    requires { ⌜ q .jobs ≤ 24 ⌝ }
-    ensures { λ r. ⌜ Costs (lagging (problem l q) (entry est) lag) r 64 ⌝ }
-{
-    let mut all = [0u16; 64];
-    for p in 0..64 {
-        all[p] = cost(l, q, est, lag, p);
+    let mut all = cheaper;
+    let mut v = w;
+    while v != 0 {
+        all = lower_one(facts::lowest(v) as usize, c, costs, all);
+        v = facts::rest(v);
     }
     all
 }
 
-// The cost of fact p if it is a condition.
-fn cost_if(conditions: u64, p: usize, cost: u16) -> u16
-    requires { ⌜ p < 64 ⌝ }
-    ensures { λ r. ⌜ r ≡ cond (has conditions p) cost 0 ⌝ }
+// A job whose estimate fell: what it adds costs that and its duration at most, with the lag.
+fn lower_by(a: Action, lag: u16, est: u16, next: u16, costs: &mut [u16; 64], cheaper: u64) -> u64
+    ensures { λ r. ⌜ Lowers (λ p. ltb next est && has (a .additions) p) (plus (plus next (a .duration)) lag) cheaper (now (costs .entry)) (now (costs .exit)) r ⌝ }
 {
-    if facts::has(conditions, p) {
-        return cost;
+    if next < est {
+        return lower(
+            a.additions,
+            plus(plus(next, a.duration), lag),
+            costs,
+            cheaper,
+        );
     }
-    0
+    cheaper
 }
 
-// The greatest cost of the conditions.
-fn greatest(conditions: u64, costs: [u16; 64]) -> u16
-    ensures { λ r. ⌜ r ≡ greatest conditions costs 64 ⌝ }
+// The costs where all jobs have come to their next estimates; the facts that got cheaper.
+fn lower_all(
+    l: Loaded,
+    q: Ask,
+    lag: u16,
+    est: [u16; 24],
+    next: [u16; 24],
+    costs: &mut [u16; 64],
+) -> u64
+    requires { ⌜ (q .jobs ≤ 24) × Costs (lagging (problem l q) (entry est) lag) (now costs) 64 ⌝ }
+    ensures { λ r. ⌜ Cheaper (problem l q) (entry next) (entry est) lag (q .jobs) (now (costs .entry)) (now (costs .exit)) r ⌝ }
+{
+    let n = q.jobs;
+    let mut cheaper: u64 = 0;
+    for i in 0..n {
+        cheaper = lower_by(l.jobs[i], lag, est[i], next[i], costs, cheaper);
+    }
+    cheaper
+}
+
+// The greatest cost of the facts of the word.
+fn greatest(w: u64, costs: &[u16; 64]) -> u16
+    ensures { λ r. ⌜ r ≡ greatest w (now (costs .entry)) 64 ⌝ }
 {
     let mut most: u16 = 0;
-    for p in 0..64 {
-        let one = cost_if(conditions, p, costs[p]);
-        most = entries::higher(one, most);
+    let mut v = w;
+    while v != 0 {
+        most = entries::higher(costs[facts::lowest(v) as usize], most);
+        v = facts::rest(v);
     }
     most
+}
+
+// What facts cost before any job is reached: only what is open has a cost.
+fn unreached(opening: u64) -> [u16; 64]
+    ensures { λ r. ⌜ Costs (λ p. cond (has opening p) 0 65535) r 64 ⌝ }
+{
+    let mut costs = [65535u16; 64];
+    lower(opening, 0, &mut costs, 0);
+    costs
 }
 
 // What a word of facts costs: the greatest of their costs, which have no gap.
@@ -102,7 +116,9 @@ pub fn dearest(l: Loaded, q: Ask, est: [u16; 24], w: u64) -> u16
     requires { ⌜ q .jobs ≤ 24 ⌝ }
     ensures { λ r. ⌜ CostOf (problem l q) (entry est) w r ⌝ }
 {
-    greatest(w, costs(l, q, est, 0))
+    let mut costs = unreached(q.opening);
+    lower_all(l, q, 0, [65535u16; 24], est, &mut costs);
+    greatest(w, &costs)
 }
 
 // A job's estimate: the greater of its release and the greatest cost of its conditions.
@@ -112,20 +128,70 @@ fn estimate(release: u16, ready: u16) -> u16
     entries::higher(release, ready)
 }
 
-// Each job's estimate from the present ones.
-fn round(l: Loaded, q: Ask, est: [u16; 24]) -> [u16; 24]
-    requires { ⌜ q .jobs ≤ 24 ⌝ }
-    ensures { λ r. ⌜ NextRound (problem l q) (entry est) r (q .jobs) ⌝ }
+// A job's first estimate: its release if its conditions are open, else 65,535.
+fn opened(conditions: u64, opening: u64, release: u16) -> u16
+    ensures { λ r. ⌜ r ≡ opened conditions opening release ⌝ }
 {
-    let costs = costs(l, q, est, tables::gap(q));
+    if facts::covers(opening, conditions) {
+        return release;
+    }
+    65535
+}
+
+// The first round: each job's estimate where no job is reached.
+fn first(l: Loaded, q: Ask) -> [u16; 24]
+    requires { ⌜ (q .jobs ≤ 24) × Released l q ⌝ }
+    ensures { λ r. ⌜ NextRound (problem l q) (λ _. 65535) r (q .jobs) ⌝ }
+{
     let n = q.jobs;
-    let mut next = est;
+    let mut est = [65535u16; 24];
     for i in 0..n {
         let a = l.jobs[i];
-        let ready = greatest(a.conditions, costs);
-        next[i] = estimate(a.release, ready);
+        est[i] = opened(a.conditions, q.opening, a.release);
     }
-    next
+    est
+}
+
+// A job's next estimate: by the costs where one of its conditions got cheaper, else the one it has.
+fn look(a: Action, est: u16, costs: &[u16; 64], cheaper: u64) -> u16
+    ensures { λ r. ⌜ r ≡ cond (looked (a .conditions) cheaper) (max (a .release) (greatest (a .conditions) (now (costs .entry)) 64)) est ⌝ }
+{
+    if facts::meets(a.conditions, cheaper) {
+        return estimate(a.release, greatest(a.conditions, costs));
+    }
+    est
+}
+
+// One round more, from the facts that got cheaper in the round before to those that got cheaper in this one.
+fn round(l: Loaded, q: Ask, cheaper: u64, est: &mut [u16; 24], costs: &mut [u16; 64]) -> u64
+    requires { ⌜ (q .jobs ≤ 24) × (length (now est) ≡ 24) × Costs (lagging (problem l q) (entry (now est)) (problem l q .gap)) (now costs) 64 × Rests (problem l q) (entry (now est)) cheaper ⌝ }
+    ensures { λ r. ⌜ Round (problem l q) (now (est .entry)) (now (costs .entry)) (now (est .exit)) (now (costs .exit)) r ⌝ }
+{
+    let before = *costs;
+    let gap = tables::gap(q);
+    let n = q.jobs;
+    let mut new: u64 = 0;
+    for i in 0..n {
+        let a = l.jobs[i];
+        let next = look(a, est[i], &before, cheaper);
+        new = lower_by(a, gap, est[i], next, costs, new);
+        est[i] = next;
+    }
+    new
+}
+
+// The facts that some job needs.
+fn needed(l: Loaded, q: Ask) -> u64
+    requires { ⌜ q .jobs ≤ 24 ⌝ }
+    ensures { λ r. ⌜ Word (λ p. any (λ i. has (problem l q .conditions i) p) (q .jobs)) r ⌝ }
+{
+    let n = q.jobs;
+    let mut all: u64 = 0;
+    for i in 0..n {
+        let a = l.jobs[i];
+        all = all | a.conditions;
+    }
+    all
 }
 
 // The estimates of all jobs.
@@ -133,15 +199,14 @@ pub fn estimate_all(l: Loaded, q: Ask) -> [u16; 24]
     requires { ⌜ (q .jobs ≤ 24) × Released l q ⌝ }
     ensures { λ r. ⌜ Estimates (problem l q) (entry r) ⌝ }
 {
-    let n = q.jobs;
-    let mut est = [65535u16; 24];
-    loop {
-        let next = round(l, q, est);
-        if entries::same(est, next, n) {
-            return est;
-        }
-        est = next;
+    let needed = needed(l, q);
+    let mut costs = unreached(q.opening);
+    let mut est = first(l, q);
+    let mut cheaper = lower_all(l, q, tables::gap(q), [65535u16; 24], est, &mut costs);
+    while facts::meets(needed, cheaper) {
+        cheaper = round(l, q, cheaper, &mut est, &mut costs);
     }
+    est
 }
 
 // The earliest estimates, one a job, into lent memory.

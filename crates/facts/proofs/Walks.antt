@@ -86,3 +86,6 @@ over-next o d = record { short = omega (arith, o .short, d .less); from = λ i h
 
 pub over-here : {k all w i : ℕ} → Over k all w → (w ≡ 0 → ⊥) → i ≡ least (has w) k → T (has all i)
 over-here {k} {w = w} {i} o n e = o .from i (rw e (lowest-in k w (o .short) n))
+
+pub over-lt : {k all w i : ℕ} → Over k all w → (w ≡ 0 → ⊥) → i ≡ least (has w) k → i < k
+over-lt {k} {w = w} {i} o n e = has-lt k w i (o .short) (rw e (lowest-in k w (o .short) n))

@@ -12,8 +12,8 @@ use Rattle.facts.specs.Words.{Word}
 use Rattle.facts.specs.Least.{least}
 use Rattle.facts.specs.Walks.{Walk}
 use Rattle.facts.proofs.Bools.{same, or-l, or-r, or-cases, below-suc}
-use Rattle.facts.proofs.Sets.{has-zero, has-lt}
-use Rattle.facts.proofs.Walks.{Done, done-none, done-next, done-map, done-all, Over, over-all, over-next, over-here, lowest-in}
+use Rattle.facts.proofs.Sets.{has-zero}
+use Rattle.facts.proofs.Walks.{Done, done-none, done-next, done-map, done-all, Over, over-all, over-next, over-here, over-lt}
 use Rattle.tables.specs.Tables.{problem}
 use Rattle.tables.specs.declared.Loaded.{Loaded}
 use Rattle.tables.specs.declared.Ask.{Ask}
@@ -55,7 +55,7 @@ walked-none l = record { over = over-all l; of = λ i h. absurd (has-zero i h); 
 
 -- the lowest fact of a word that is not empty is a fact
 pub lowest-small : {fact : List ℕ} {w r v p : ℕ} → Walked fact w r v → (v ≡ 0 → ⊥) → p ≡ least (has v) 64 → p < 64
-lowest-small {v = v} k n e = has-lt 64 v _ (k .over .short) (rw e (lowest-in 64 v (k .over .short) n))
+lowest-small k n e = over-lt (k .over) n e
 
 pub walked-next : {fact : List ℕ} {w r v p s u : ℕ} → Walked fact w r v → (v ≡ 0 → ⊥) → p ≡ least (has v) 64 → Moved fact p r s → Walk 64 v u → Walked fact w s u
 walked-next {fact} {w} {r} {v} {p} {s} k n e m d = record {

@@ -1,24 +1,22 @@
 use borrow.Author.Needs.{needs}
-use mathlib.Core.Path.{_≡_, refl, ap₂, _∙_}
-use Prim.Native.Nat.{_-_, _≤_, max}
 use native.Mathlib.Omega.{arith}
-use Rattle.estimates.specs.Rounds.{greatest}
-use Rattle.estimates.proofs.Laws.{greatest-more}
+use denote.Ref.{now}
+use Rattle.facts.proofs.Walks.{over-lt}
+use Rattle.estimates.proofs.Walked.{Climbing, climbing-none, climbing-next, climbing-all}
 use Rattle.estimates.proofs.greatest.Statement.{statement}
 use Rattle.estimates.proofs.greatest.Tie as tie
 
 abbrev Inv-loop : tie.InvT-loop
-Inv-loop conditions costs most₀ p₀ most p = (p ≤ 64) × (most ≡ greatest conditions costs p)
+Inv-loop w costs most₀ v₀ most v = Climbing w costs most v
 
 abbrev μ-loop : tie.MeasureT-loop
-μ-loop conditions costs most₀ p₀ most p = 64 - p
-
-loop-holds : tie.Need-loop-holds Inv-loop μ-loop
-unfolding greatest
-loop-holds c = (omega arith, refl)
+μ-loop w costs most₀ v₀ most v = v
 
 loop-again : tie.Need-loop-again Inv-loop μ-loop
-loop-again c = (omega arith, c .higher .ensures ∙ ap₂ max (c .before .cost-if .ensures) (c .before .before .before .loop .inv .1) ∙ greatest-more (c .before .before .before .before .args .conditions) (c .before .before .before .before .args .t2) (c .before .before .before .loop .p))
+loop-again c =
+    let d = c .before .before .before .before .before in
+    let a = d .before .args in
+    climbing-next (a .w) (now (a .costs)) (d .loop .most) (d .loop .v) _ _ _ (d .before .fits .w .fits) (d .loop .inv) (c .before .before .before .before .loop-test .taken) (c .before .before .before .lowest .ensures) (c .before .higher .ensures) (c .rest .ensures)
 
 pub greatest-spec : {M : Type 1} → statement M
 greatest-spec =
@@ -26,12 +24,13 @@ greatest-spec =
     (tie.spec
     Inv-loop
     μ-loop
-    loop-holds
-    (λ c. search needs)
-    (λ c. search needs)
-    (λ c κs. search needs)
+    (λ c. climbing-none (c .args .w) (now (c .args .costs)) (c .fits .w .fits))
     (λ c κs. search needs)
     (λ c. search needs)
-    (λ c. search needs)
+    (λ c. omega (arith, over-lt (c .before .before .loop .inv .over) (c .before .loop-test .taken) (c .lowest .ensures)))
+    (λ c. over-lt (c .before .before .loop .inv .over) (c .before .loop-test .taken) (c .lowest .ensures))
+    (λ c κs. search needs)
+    (λ c κs. search needs)
+    (λ c. c .rest .ensures .less)
     loop-again
-    (λ c. let e : c .before .loop .p ≡ 64 = omega arith in rw e at (c .before .loop .inv .1)))
+    (λ c. climbing-all (c .before .before .args .w) (now (c .before .before .args .costs)) (c .before .loop .most) (c .before .loop .v) (c .before .loop .inv) (c .loop-test .left)))

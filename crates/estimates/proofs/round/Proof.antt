@@ -1,29 +1,37 @@
 use borrow.Author.Needs.{needs}
-use mathlib.Core.Path.{_≡_, ap, _∙_, subst}
-use Prim.Native.Nat.{ℕ, _-_, _≤_, _<_, max}
+use mathlib.Core.Path.{_≡_, refl}
+use Prim.Native.Nat.{_-_, _≤_}
 use native.Mathlib.Omega.{arith}
-use lib.ListN.{length, length-set}
-use Rattle.tables.specs.Tables.{jobAt, problem}
+use denote.Ref.{now}
+use Rattle.tables.specs.Tables.{problem}
+use Rattle.tables.specs.declared.Ask.{Ask}
 use Rattle.entries.specs.Entries.{entry}
-use Rattle.entries.proofs.Laws.{stored}
-use Rattle.estimates.specs.Rounds.{greatest, lagging, Costs}
-use Rattle.estimates.proofs.Laws.{greatest-is}
+use Rattle.estimates.specs.Rounds.{lagging, Costs, Rests}
+use Rattle.estimates.proofs.Laws.{Going, going-none, going-more, going-all}
 use Rattle.estimates.proofs.round.Statement.{statement}
 use Rattle.estimates.proofs.round.Tie as tie
 
 abbrev Inv-loop : tie.InvT-loop
-Inv-loop l costs n next₀ i₀ next i = (i ≤ n) × (length next ≡ 24) × ((k : ℕ) → k < i → entry next k ≡ max (jobAt l k .release) (greatest (jobAt l k .conditions) costs 64))
+Inv-loop cheaper est₀ costs₀ l before gap n new₀ i₀ est costs new i =
+    (i ≤ n) × ((q : Ask) → q .jobs ≡ n → gap ≡ problem l q .gap → Costs (lagging (problem l q) (entry est₀) (problem l q .gap)) costs₀ 64 → Rests (problem l q) (entry est₀) cheaper → Going (problem l q) est₀ costs₀ i est costs new)
 
 abbrev μ-loop : tie.MeasureT-loop
-μ-loop l costs n next₀ i₀ next i = n - i
+μ-loop cheaper est₀ costs₀ l before gap n new₀ i₀ est costs new i = n - i
 
 loop-again : tie.Need-loop-again Inv-loop μ-loop
-loop-again c = (omega arith, simp length-set (c .before .before .before .before .loop .inv .1), stored _ (c .before .before .before .before .loop .next) (c .before .before .before .before .loop .i) _ (omega (arith, c .before .before .before .before .loop .inv .1)) (c .before .before .before .before .loop .inv .2) (c .estimate .ensures ∙ ap (max _) (c .before .greatest .ensures)))
+loop-again c =
+    let d = c .before .before .before in
+    let b = d .before .before .before .before .before in
+    let a = b .before .before .before .args in
+    (omega arith, λ q e g h s. going-more (problem (a .t1) q) (now (a .est)) (now (a .costs)) h (a .cheaper) (b .loop .i) (b .loop .est) (b .loop .costs) (b .loop .new) (d .look .result) _ _ s (omega (arith, d .before .before .before .before .loop-test .taken)) (omega (arith, b .before .before .before .pre .0)) (b .loop .inv .1 q e g h s) (d .look .ensures) (rw g at (c .lower-by .ensures)))
 
 returns : tie.Need-returns Inv-loop μ-loop
 returns c =
-    let a = c .before .before .before .before .args in
-    λ k h. c .before .loop .inv .2 k (omega arith) ∙ greatest-is (problem (a .t1) (a .q)) (entry (a .est)) (c .before .before .costs .result) k 64 (omega arith) (subst (λ (lag : ℕ). Costs (lagging (problem (a .t1) (a .q)) (entry (a .est)) lag) (c .before .before .costs .result) 64) (c .before .before .before .gap .ensures) (c .before .before .costs .ensures))
+    let d = c .before .before in
+    let a = d .before .before .args in
+    let p = d .before .before .pre in
+    let e : c .before .loop .i ≡ a .q .jobs = omega arith in
+    going-all (problem (a .t1) (a .q)) (now (a .est)) (now (a .costs)) (p .2) _ _ _ (rw e at (c .before .loop .inv .1 (a .q) refl (d .gap .ensures) (p .2) (p .3)))
 
 pub round-spec : {M : Type 1} → statement M
 round-spec =
@@ -32,14 +40,17 @@ round-spec =
     Inv-loop
     μ-loop
     (λ c κs. search needs)
-    (λ c κs. search needs)
-    (λ c. (omega arith, search needs, λ k h. absurd (omega arith)))
+    (λ c. (omega arith, λ q e g h s. going-none (problem (c .before .before .args .t1) q) (now (c .before .before .args .est)) (now (c .before .before .args .costs)) h (c .before .before .pre .1)))
+    (λ c. search needs)
+    (λ c. search needs)
     (λ c. search needs)
     (λ c. search needs)
     (λ c κs. search needs)
+    (λ c. search needs)
+    (λ c. search needs)
     (λ c κs. search needs)
     (λ c. search needs)
-    (λ c. omega (arith, c .before .before .before .before .loop .inv .1))
+    (λ c. search needs)
     (λ c. search needs)
     (λ c. search needs)
     loop-again
