@@ -14,6 +14,7 @@ import files
 import gaps
 import readings
 import releases
+import rounds
 from call import Call, Job
 from draft import (FAULTS, HYGIENE, LATE, MOST, OFFERED, ON_TIME, TABLED, Draft, base_draft, cut_to_limits, each_fault,
                    landed)
@@ -25,6 +26,7 @@ LATE_SEED, LATE_DRAWN = 20050725, 800
 GAP_SEED, GAP_DRAWN = 20060725, 600
 CLASH_SEED = 20070725
 TENTHS_SEED = 20080725
+ROUNDS_SEED = 20090725
 
 
 def planned_table(dice, crates):
@@ -306,15 +308,15 @@ def mixed(seed, walks, count=0, crates=ON_TIME):
 
 def corpus():
     """The fixed calls: those that stood before there were releases, unchanged, behind them those with releases, those
-    under rule 2, those on clashes, and last those beside halves of a tenth."""
+    under rule 2, those on clashes, those beside halves of a tenth, and last estimates that take many rounds."""
     return (mixed(SEED, WALKS, DRAWN, ON_TIME) + mixed(LATE_SEED, releases.WALKS, LATE_DRAWN, LATE)
             + mixed(GAP_SEED, gaps.WALKS, GAP_DRAWN, HYGIENE) + mixed(CLASH_SEED, clashes.WALKS)
-            + mixed(TENTHS_SEED, (readings.beside_halves,)))
+            + mixed(TENTHS_SEED, (readings.beside_halves,)) + mixed(ROUNDS_SEED, rounds.WALKS))
 
 
 def more(count, seed):
-    """A tenth of the calls on clashes, one in fifty beside halves of a tenth; of the others half under rule 2, half of all on
-    tables with releases."""
+    """A tenth of the calls on clashes, one in fifty beside halves of a tenth, one in fifty for estimates that take many rounds; of
+    the others half under rule 2, half of all on tables with releases."""
     dice = random.Random(seed)
     for _ in range(count):
         chance = dice.random()
@@ -322,6 +324,8 @@ def more(count, seed):
             yield dice.choice(clashes.DRAWN)(dice)
         elif chance < 0.12:
             yield readings.rounded(dice)
+        elif chance < 0.14:
+            yield rounds.drawn(dice)
         else:
             yield from drawn(dice, 1, dice.choice((ON_TIME, LATE, HYGIENE, HYGIENE)))
 

@@ -104,6 +104,10 @@ plus-min : (a c lag : ℕ) → min (plus a lag) (plus c lag) ≡ plus (min a c) 
 unfolding plus
 plus-min a c lag = omega arith
 
+pub at-most-1 : (b : Bool) → cond b 1 0 ≤ 1
+at-most-1 true = omega arith
+at-most-1 false = omega arith
+
 pub cond-low : (b : Bool) (c x : ℕ) → cond b (min c x) x ≤ x
 cond-low true c x = omega arith
 cond-low false c x = omega arith
@@ -338,14 +342,10 @@ module _ (P : Problem) where
 
     -- so the rounds end
     pub sum-less : (v : ℕ) → sum (entry next) (P .count) + cond (looked v r) 1 0 < sum (entry est) (P .count) + 1
-    sum-less v = ⊎-elim (λ e. omega (arith, cond-no (looked v r) 1 0 (still e v), same-sum e)) (λ l. omega (arith, small (looked v r))) falls
+    sum-less v = ⊎-elim (λ e. omega (arith, cond-no (looked v r) 1 0 (still e v), same-sum e)) (λ l. omega (arith, at-most-1 (looked v r))) falls
       where
         falls : ((i : ℕ) → i < P .count → entry next i ≡ entry est i) ⊎ (sum (entry next) (P .count) < sum (entry est) (P .count))
         falls = sum-falls (entry next) (entry est) (P .count) (λ j l. rw (d .is j l) (s .high j l))
-
-        small : (b : Bool) → cond b 1 0 ≤ 1
-        small true = omega arith
-        small false = omega arith
 
         same-sum : ((i : ℕ) → i < P .count → entry next i ≡ entry est i) → sum (entry next) (P .count) ≤ sum (entry est) (P .count)
         same-sum e = sum-le (entry next) (entry est) (P .count) (λ i l. omega (arith, e i l))
