@@ -20,7 +20,7 @@ use Rattle.rules.specs.Sums.{sum}
 use Rattle.rules.proofs.Sums.{sum-le, sum-of, sum-more, cond-yes, cond-no, under, under-le, under-self, under-in, under-mono}
 use Rattle.rules.proofs.Early.{job-within, fact-within, dearest-mono, dearest-cap, estimates-exist}
 use Rattle.entries.specs.Entries.{entry}
-use Rattle.estimates.specs.Rounds.{NextRound, looked, Round}
+use Rattle.estimates.specs.Rounds.{NextRound, due, AfterRound}
 use Rattle.estimates.proofs.Laws.{at-most-1, High, Standing, standing-next, still}
 
 ones-most : (f : ℕ → ℕ) (n : ℕ) → ((i : ℕ) → i < n → f i ≤ 1) → sum f n ≤ n
@@ -83,23 +83,23 @@ module _ (P : Problem) (ok : InOrder P) (solution : ℕ → ℕ) (x : Estimates 
 
 -- the jobs that a round looks at
 abbrev pub looks : Problem → (cheaper : ℕ) → ℕ
-looks P cheaper = sum (λ i. cond (looked (P .conditions i) cheaper) 1 0) (P .count)
+looks P cheaper = sum (λ i. cond (due (P .conditions i) cheaper) 1 0) (P .count)
 
 -- the rounds of the loop: the first, which looks at every job, and k behind it, each begun where a job needs a fact that got cheaper; all have looked at m jobs
 pub data Rounds (P : Problem) (needed : ℕ) : (est costs : List ℕ) (cheaper k m : ℕ) → Type 0 where
   first : {est costs : List ℕ} {cheaper : ℕ} → Standing P est costs cheaper → NextRound P (λ _. 65535) est (P .count) → Rounds P needed est costs cheaper 0 (P .count)
-  more : {est costs new costs′ : List ℕ} {cheaper r k m : ℕ} → Rounds P needed est costs cheaper k m → T (looked needed cheaper) → Round P est costs new costs′ r
+  more : {est costs new costs′ : List ℕ} {cheaper r k m : ℕ} → Rounds P needed est costs cheaper k m → T (due needed cheaper) → AfterRound P est costs new costs′ r
       → Rounds P needed new costs′ r (suc k) (m + looks P cheaper)
 
 few-each : (P : Problem) (cheaper : ℕ) → looks P cheaper ≤ P .count
-few-each P cheaper = ones-most _ (P .count) (λ i l. at-most-1 (looked (P .conditions i) cheaper))
+few-each P cheaper = ones-most _ (P .count) (λ i l. at-most-1 (due (P .conditions i) cheaper))
 
 looks-by-rounds : {P : Problem} {needed : ℕ} {est costs : List ℕ} {cheaper k m : ℕ} → Rounds P needed est costs cheaper k m → m ≤ suc k * P .count
 looks-by-rounds {P = P} (first s n) = omega (arith, suc-mul 0 (P .count))
 looks-by-rounds {P = P} {k = suc k} (more {cheaper = cheaper} r t d) = omega (arith, looks-by-rounds r, few-each P cheaper, suc-mul (suc k) (P .count))
 
 module _ (P : Problem) (ok : InOrder P) (late : (i : ℕ) → i < P .count → P .release i ≤ 65535) (needed : ℕ) (is : Word (λ p. any (λ i. has (P .conditions i) p) (P .count)) needed) where
-  some-job : (cheaper : ℕ) → T (looked needed cheaper) → 1 ≤ P .count
+  some-job : (cheaper : ℕ) → T (due needed cheaper) → 1 ≤ P .count
   some-job cheaper t =
       let z = any-at (λ p. has needed p && has cheaper p) 64 t in
       let y = any-at (λ i. has (P .conditions i) (z .0)) (P .count) (rw (is (z .0)) at (and-l (has needed (z .0)) _ (z .2))) in
@@ -113,32 +113,32 @@ module _ (P : Problem) (ok : InOrder P) (late : (i : ℕ) → i < P .count → P
     record At (est costs : List ℕ) (cheaper k : ℕ) : Type 0 where
       standing : Standing P est costs cheaper
       high : Above P ok solution x (entry est)
-      few : k + above (entry est) + cond (looked needed cheaper) 1 0 ≤ P .count
+      few : k + above (entry est) + cond (due needed cheaper) 1 0 ≤ P .count
 
     at-first : (est costs : List ℕ) (cheaper : ℕ) → Standing P est costs cheaper → NextRound P (λ _. 65535) est (P .count) → At est costs cheaper 0
-    at-first est costs cheaper s n = record { standing = s; high = λ i l. rw (n i l) (above-next P ok solution x (λ _. 65535) top i l); few = go (falls P ok solution x (λ _. 65535) top (λ i l. omega (arith, dearest-cap P (λ _. 65535) i, late i l))) (T? (looked needed cheaper)) }
+    at-first est costs cheaper s n = record { standing = s; high = λ i l. rw (n i l) (above-next P ok solution x (λ _. 65535) top i l); few = go (falls P ok solution x (λ _. 65535) top (λ i l. omega (arith, dearest-cap P (λ _. 65535) i, late i l))) (T? (due needed cheaper)) }
       where
         top : Above P ok solution x (λ _. 65535)
         top i l = omega (arith, x i l, dearest-cap P solution i, late i l)
 
-        go : ((i : ℕ) → i < P .count → 65535 ≡ solution i) ⊎ (above (next P ok solution x (λ _. 65535)) + 1 ≤ above (λ _. 65535)) → T (looked needed cheaper) ⊎ (T (looked needed cheaper) → ⊥) → 0 + above (entry est) + cond (looked needed cheaper) 1 0 ≤ P .count
-        go (inl e) (inl t) = omega (arith, cond-yes (looked needed cheaper) 1 0 t, some-job cheaper t, left-none P ok solution x (entry est) (λ i l. omega (arith, e i l, n i l, dearest-cap P (λ _. 65535) i, late i l)))
-        go (inl e) (inr t) = omega (arith, cond-no (looked needed cheaper) 1 0 t, left-all P ok solution x (entry est))
-        go (inr e) t = omega (arith, at-most-1 (looked needed cheaper), left-all P ok solution x (λ _. 65535), left-le P ok solution x (entry est) (next P ok solution x (λ _. 65535)) (λ i l. omega (arith, n i l)))
+        go : ((i : ℕ) → i < P .count → 65535 ≡ solution i) ⊎ (above (next P ok solution x (λ _. 65535)) + 1 ≤ above (λ _. 65535)) → T (due needed cheaper) ⊎ (T (due needed cheaper) → ⊥) → 0 + above (entry est) + cond (due needed cheaper) 1 0 ≤ P .count
+        go (inl e) (inl t) = omega (arith, cond-yes (due needed cheaper) 1 0 t, some-job cheaper t, left-none P ok solution x (entry est) (λ i l. omega (arith, e i l, n i l, dearest-cap P (λ _. 65535) i, late i l)))
+        go (inl e) (inr t) = omega (arith, cond-no (due needed cheaper) 1 0 t, left-all P ok solution x (entry est))
+        go (inr e) t = omega (arith, at-most-1 (due needed cheaper), left-all P ok solution x (λ _. 65535), left-le P ok solution x (entry est) (next P ok solution x (λ _. 65535)) (λ i l. omega (arith, n i l)))
 
-    at-more : (est costs new costs′ : List ℕ) (cheaper r k : ℕ) → At est costs cheaper k → T (looked needed cheaper) → Round P est costs new costs′ r → At new costs′ r (suc k)
-    at-more est costs new costs′ cheaper r k a t d = record { standing = standing-next P est costs new costs′ cheaper r (a .standing) d; high = λ i l. rw (d .is i l) (above-next P ok solution x (entry est) (a .high) i l); few = go (falls P ok solution x (entry est) (a .high) (a .standing .high)) (T? (looked needed r)) }
+    at-more : (est costs new costs′ : List ℕ) (cheaper r k : ℕ) → At est costs cheaper k → T (due needed cheaper) → AfterRound P est costs new costs′ r → At new costs′ r (suc k)
+    at-more est costs new costs′ cheaper r k a t d = record { standing = standing-next P est costs new costs′ cheaper r (a .standing) d; high = λ i l. rw (d .is i l) (above-next P ok solution x (entry est) (a .high) i l); few = go (falls P ok solution x (entry est) (a .high) (a .standing .high)) (T? (due needed r)) }
       where
         begun : k + above (entry est) + 1 ≤ P .count
-        begun = omega (arith, a .few, cond-yes (looked needed cheaper) 1 0 t)
+        begun = omega (arith, a .few, cond-yes (due needed cheaper) 1 0 t)
 
         lower : (i : ℕ) → i < P .count → entry new i ≤ entry est i
         lower i l = omega (arith, d .is i l, a .standing .high i l)
 
-        go : ((i : ℕ) → i < P .count → entry est i ≡ solution i) ⊎ (above (next P ok solution x (entry est)) + 1 ≤ above (entry est)) → T (looked needed r) ⊎ (T (looked needed r) → ⊥) → suc k + above (entry new) + cond (looked needed r) 1 0 ≤ P .count
+        go : ((i : ℕ) → i < P .count → entry est i ≡ solution i) ⊎ (above (next P ok solution x (entry est)) + 1 ≤ above (entry est)) → T (due needed r) ⊎ (T (due needed r) → ⊥) → suc k + above (entry new) + cond (due needed r) 1 0 ≤ P .count
         go (inl e) (inl u) = absurd (still P est costs new costs′ cheaper r (a .standing) d (λ i l. omega (arith, lower i l, e i l, d .is i l, above-next P ok solution x (entry est) (a .high) i l)) needed u)
-        go (inl e) (inr u) = omega (arith, begun, cond-no (looked needed r) 1 0 u, left-le P ok solution x (entry new) (entry est) lower)
-        go (inr e) u = omega (arith, begun, at-most-1 (looked needed r), left-le P ok solution x (entry new) (next P ok solution x (entry est)) (λ i l. omega (arith, d .is i l)))
+        go (inl e) (inr u) = omega (arith, begun, cond-no (due needed r) 1 0 u, left-le P ok solution x (entry new) (entry est) lower)
+        go (inr e) u = omega (arith, begun, at-most-1 (due needed r), left-le P ok solution x (entry new) (next P ok solution x (entry est)) (λ i l. omega (arith, d .is i l)))
 
     at : {est costs : List ℕ} {cheaper k m : ℕ} → Rounds P needed est costs cheaper k m → At est costs cheaper k
     at (first s n) = at-first _ _ _ s n

@@ -24,7 +24,7 @@ use Rattle.rules.specs.Sums.{sum}
 use Rattle.rules.proofs.Early.{plus-mono, cheapest-cap, cheapest-le, cheapest-mono, cost-free, cost-cap, dearest-ge, dearest-mono, dearest-cap}
 use Rattle.entries.specs.Entries.{entry}
 use Rattle.entries.proofs.Laws.{stored}
-use Rattle.estimates.specs.Rounds.{greatest, lagging, Costs, NextRound, Lowers, amid, Cheaper, opened, looked, Rests, Round}
+use Rattle.estimates.specs.Rounds.{greatest, lagging, Costs, NextRound, Lowers, amid, Cheaper, atFirst, due, Rests, AfterRound}
 
 -- ── a job more, as a loop's counter says it ──
 
@@ -207,7 +207,7 @@ module _ (P : Problem) (e : ℕ → ℕ) where
       go (inr n) r = omega (arith, cond-no (has (P .conditions i) k) what 0 n)
 
   -- where no job is reached, a job has its release for its estimate or none
-  pub first-is : ((i : ℕ) → i < P .count → e i ≡ 65535) → (i : ℕ) → P .release i ≤ 65535 → opened (P .conditions i) (P .opening) (P .release i) ≡ dearest P e i 64
+  pub first-is : ((i : ℕ) → i < P .count → e i ≡ 65535) → (i : ℕ) → P .release i ≤ 65535 → atFirst (P .conditions i) (P .opening) (P .release i) ≡ dearest P e i 64
   unfolding condition
   first-is never i late = go (T? (any closed 64))
     where
@@ -243,15 +243,15 @@ module _ (P : Problem) where
 
   -- what a look gives a job
   pub look-is : (e : ℕ → ℕ) (costs : List ℕ) (cheaper i : ℕ) → i < P .count → Costs (lagging P e (P .gap)) costs 64 → Rests P e cheaper
-      → cond (looked (P .conditions i) cheaper) (max (P .release i) (greatest (P .conditions i) costs 64)) (e i) ≡ dearest P e i 64
-  look-is e costs cheaper i l h s = go (T? (looked (P .conditions i) cheaper))
+      → cond (due (P .conditions i) cheaper) (max (P .release i) (greatest (P .conditions i) costs 64)) (e i) ≡ dearest P e i 64
+  look-is e costs cheaper i l h s = go (T? (due (P .conditions i) cheaper))
     where
       new : ℕ
       new = max (P .release i) (greatest (P .conditions i) costs 64)
 
-      go : T (looked (P .conditions i) cheaper) ⊎ (T (looked (P .conditions i) cheaper) → ⊥) → cond (looked (P .conditions i) cheaper) new (e i) ≡ dearest P e i 64
-      go (inl y) = cond-yes (looked (P .conditions i) cheaper) new (e i) y ∙ greatest-is e costs i 64 (omega arith) h
-      go (inr n) = cond-no (looked (P .conditions i) cheaper) new (e i) n ∙ s i l n
+      go : T (due (P .conditions i) cheaper) ⊎ (T (due (P .conditions i) cheaper) → ⊥) → cond (due (P .conditions i) cheaper) new (e i) ≡ dearest P e i 64
+      go (inl y) = cond-yes (due (P .conditions i) cheaper) new (e i) y ∙ greatest-is e costs i 64 (omega arith) h
+      go (inr n) = cond-no (due (P .conditions i) cheaper) new (e i) n ∙ s i l n
 
   -- no estimate is too low
   abbrev pub High : (ℕ → ℕ) → Type 0
@@ -273,7 +273,7 @@ module _ (P : Problem) where
   rests-next est next old new r a b falls cheaper is i l n = is i l ∙ sym (greatest-is est old i 64 (omega arith) a)
       ∙ ap (max (P .release i)) (greatest-same (P .conditions i) old new 64 (λ p m g. omega (arith, falls p m, at-most (entry new p) (entry old p) (λ t. n (met p m g t))))) ∙ greatest-is next new i 64 (omega arith) b
     where
-      met : (p : ℕ) → p < 64 → T (has (P .conditions i) p) → T (ltb (entry new p) (entry old p)) → T (looked (P .conditions i) r)
+      met : (p : ℕ) → p < 64 → T (has (P .conditions i) p) → T (ltb (entry new p) (entry old p)) → T (due (P .conditions i) r)
       met p m g t = any-of (λ q. has (P .conditions i) q && has r q) 64 p m (and-of (has (P .conditions i) p) (has r p) g (rw (cheaper p m) t))
 
   -- a round amid its jobs: those below k have their next estimates, the others those of before
@@ -288,7 +288,7 @@ module _ (P : Problem) where
     going-none e = record { room = e; is = λ i l. absurd (omega arith); rest = λ i l. refl; costs = cheaper-none P _ (entry est) (P .gap) old h }
 
     pub going-more : (cheaper k : ℕ) (now new : List ℕ) (w v : ℕ) (then : List ℕ) (r : ℕ) → Rests P (entry est) cheaper → k < P .count → P .count ≤ 24 → Going est old k now new w
-        → v ≡ cond (looked (P .conditions k) cheaper) (max (P .release k) (greatest (P .conditions k) old 64)) (entry now k)
+        → v ≡ cond (due (P .conditions k) cheaper) (max (P .release k) (greatest (P .conditions k) old 64)) (entry now k)
         → Lowers (λ p. ltb v (entry now k) && has (P .additions k) p) (plus (plus v (P .duration k)) (P .gap)) w new then r → Going est old (k + 1) (set now k v) then r
     going-more cheaper k now new w v then r s l few g looks lowers = record {
       room = simp length-set (g .room);
@@ -300,7 +300,7 @@ module _ (P : Problem) where
         is : v ≡ dearest P (entry est) k 64
         is = (rw (g .rest k (omega arith)) at looks) ∙ look-is (entry est) old cheaper k l h s
 
-    pub going-all : (now new : List ℕ) (r : ℕ) → Going est old (P .count) now new r → Round P est old now new r
+    pub going-all : (now new : List ℕ) (r : ℕ) → Going est old (P .count) now new r → AfterRound P est old now new r
     going-all now new r g = record { room = g .room; is = g .is; costs = g .costs }
 
   -- where the estimates stand between two rounds
@@ -320,7 +320,7 @@ module _ (P : Problem) where
       new : Costs (lagging P (entry est) (P .gap)) costs 64
       new = reached-costs P (entry none) (entry est) (P .gap) start costs cheaper never c
 
-  module _ (est costs next new : List ℕ) (w r : ℕ) (s : Standing est costs w) (d : Round P est costs next new r) where
+  module _ (est costs next new : List ℕ) (w r : ℕ) (s : Standing est costs w) (d : AfterRound P est costs next new r) where
     costs-next : Costs (lagging P (entry next) (P .gap)) new 64
     costs-next p m = d .costs .costs p m
         ∙ amid-all P (λ i. dearest P (entry est) i 64) (entry est) (P .gap) p (cheapest-mono P (λ i. dearest P (entry est) i 64) (entry est) p (P .count) (s .high))
@@ -334,15 +334,15 @@ module _ (P : Problem) where
     }
 
     -- a round that changes no estimate makes no fact cheaper
-    pub still : ((i : ℕ) → i < P .count → entry next i ≡ entry est i) → (v : ℕ) → T (looked v r) → ⊥
+    pub still : ((i : ℕ) → i < P .count → entry next i ≡ entry est i) → (v : ℕ) → T (due v r) → ⊥
     still e v t =
         let z = any-at (λ p. has v p && has r p) 64 t in
         let less : T (ltb (entry new (z .0)) (entry costs (z .0))) = rw (d .costs .cheaper (z .0) (z .1)) at (and-r (has v (z .0)) (has r (z .0)) (z .2)) in
         absurd (omega (arith, ltb→lt (entry new (z .0)) (entry costs (z .0)) less, costs-next (z .0) (z .1), s .costs (z .0) (z .1), lagging-same (entry next) (entry est) (P .gap) (z .0) e))
 
     -- so the rounds end
-    pub sum-less : (v : ℕ) → sum (entry next) (P .count) + cond (looked v r) 1 0 < sum (entry est) (P .count) + 1
-    sum-less v = ⊎-elim (λ e. omega (arith, cond-no (looked v r) 1 0 (still e v), same-sum e)) (λ l. omega (arith, at-most-1 (looked v r))) falls
+    pub sum-less : (v : ℕ) → sum (entry next) (P .count) + cond (due v r) 1 0 < sum (entry est) (P .count) + 1
+    sum-less v = ⊎-elim (λ e. omega (arith, cond-no (due v r) 1 0 (still e v), same-sum e)) (λ l. omega (arith, at-most-1 (due v r))) falls
       where
         falls : ((i : ℕ) → i < P .count → entry next i ≡ entry est i) ⊎ (sum (entry next) (P .count) < sum (entry est) (P .count))
         falls = sum-falls (entry next) (entry est) (P .count) (λ j l. rw (d .is j l) (s .high j l))
@@ -351,9 +351,9 @@ module _ (P : Problem) where
         same-sum e = sum-le (entry next) (entry est) (P .count) (λ i l. omega (arith, e i l))
 
   -- where no job is left to look at, the estimates are the solution
-  pub solved : (est : ℕ → ℕ) (needed cheaper : ℕ) → Rests P est cheaper → Word (λ p. any (λ i. has (P .conditions i) p) (P .count)) needed → (T (looked needed cheaper) → ⊥) → Estimates P est
+  pub solved : (est : ℕ → ℕ) (needed cheaper : ℕ) → Rests P est cheaper → Word (λ p. any (λ i. has (P .conditions i) p) (P .count)) needed → (T (due needed cheaper) → ⊥) → Estimates P est
   solved est needed cheaper s w n i l = s i l (λ t. let z = any-at (λ p. has (P .conditions i) p && has cheaper p) 64 t in n (met (z .0) (z .1) (z .2)))
     where
-      met : (p : ℕ) → p < 64 → T (has (P .conditions i) p && has cheaper p) → T (looked needed cheaper)
+      met : (p : ℕ) → p < 64 → T (has (P .conditions i) p && has cheaper p) → T (due needed cheaper)
       met p m t = any-of (λ q. has needed q && has cheaper q) 64 p m (and-of (has needed p) (has cheaper p)
           (rw (w p) (any-of (λ j. has (P .conditions j) p) (P .count) i l (and-l (has (P .conditions i) p) (has cheaper p) t))) (and-r (has (P .conditions i) p) (has cheaper p) t))

@@ -21,7 +21,7 @@ use Rattle.facts.proofs.Least.{any-of, any-at}
 use Rattle.facts.proofs.Walks.{Over, over-all, over-next, over-here, Done, done-none, done-next, done-map, done-all}
 use Rattle.rules.proofs.Sums.{cond-yes, cond-no}
 use Rattle.entries.specs.Entries.{entry}
-use Rattle.estimates.specs.Rounds.{greatest, Lowers, opened}
+use Rattle.estimates.specs.Rounds.{greatest, Lowers, atFirst}
 use Rattle.estimates.proofs.Laws.{greatest-ge, greatest-le, ltb-more, cond-low}
 
 -- ── all conditions are open ──
@@ -30,12 +30,12 @@ module _ (conditions opening release : ℕ) where
   abbrev closed : ℕ → Bool
   closed p = has conditions p && not (has opening p)
 
-  pub opened-yes : Covers opening conditions → release ≡ opened conditions opening release
-  opened-yes h = sym (cond-no (any closed 64) 65535 release
+  pub first-yes : Covers opening conditions → release ≡ atFirst conditions opening release
+  first-yes h = sym (cond-no (any closed 64) 65535 release
       (λ t. let z = any-at closed 64 t in T-not (has opening (z .0)) (and-r (has conditions (z .0)) _ (z .2)) (h (z .0) (and-l (has conditions (z .0)) _ (z .2)))))
 
-  pub opened-no : conditions < 2 ^ 64 → (Covers opening conditions → ⊥) → 65535 ≡ opened conditions opening release
-  opened-no l n = ⊎-elim (λ y. sym (cond-yes (any closed 64) 65535 release y))
+  pub first-no : conditions < 2 ^ 64 → (Covers opening conditions → ⊥) → 65535 ≡ atFirst conditions opening release
+  first-no l n = ⊎-elim (λ y. sym (cond-yes (any closed 64) 65535 release y))
       (λ x. absurd (n (λ p h. certain (has opening p) (λ t. x (any-of closed 64 p (has-lt 64 conditions p l h) (and-of (has conditions p) _ h t)))))) (T? (any closed 64))
 
 -- ── one fact ──

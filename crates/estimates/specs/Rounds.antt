@@ -55,19 +55,19 @@ pub record Cheaper (P : Problem) (next est : ℕ → ℕ) (lag k : ℕ) (old new
 -- ── jobs that are looked at ──
 
 -- the first estimate of a job: its release if its conditions are open, else 65,535
-abbrev pub opened : (conditions opening release : ℕ) → ℕ
-opened conditions opening release = cond (any (λ p. has conditions p && not (has opening p)) 64) 65535 release
+abbrev pub atFirst : (conditions opening release : ℕ) → ℕ
+atFirst conditions opening release = cond (any (λ p. has conditions p && not (has opening p)) 64) 65535 release
 
--- a job is looked at where one of its conditions got cheaper
-abbrev pub looked : (conditions cheaper : ℕ) → Bool
-looked conditions cheaper = any (λ p. has conditions p && has cheaper p) 64
+-- a job is due for a look where one of its conditions got cheaper
+abbrev pub due : (conditions cheaper : ℕ) → Bool
+due conditions cheaper = any (λ p. has conditions p && has cheaper p) 64
 
--- jobs that are not looked at have the estimates that a round would give them
+-- jobs that are not due have the estimates that a round would give them
 abbrev pub Rests : Problem → (est : ℕ → ℕ) → (cheaper : ℕ) → Type 0
-Rests P est cheaper = (i : ℕ) → i < P .count → (T (looked (P .conditions i) cheaper) → ⊥) → est i ≡ dearest P est i 64
+Rests P est cheaper = (i : ℕ) → i < P .count → (T (due (P .conditions i) cheaper) → ⊥) → est i ≡ dearest P est i 64
 
 -- a round: the next estimates, the costs by them, and the facts that got cheaper
-pub record Round (P : Problem) (est old next new : List ℕ) (r : ℕ) : Type 0 where
+pub record AfterRound (P : Problem) (est old next new : List ℕ) (r : ℕ) : Type 0 where
   pub room : length next ≡ 24
   pub is : NextRound P (entry est) next (P .count)
   pub costs : Cheaper P (λ i. dearest P (entry est) i 64) (entry est) (P .gap) (P .count) old new r

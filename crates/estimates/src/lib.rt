@@ -11,7 +11,7 @@ ghost use Rattle.rules.specs.Estimates.{plus, Estimates};
 ghost use Rattle.tables.specs.Tables.{problem};
 ghost use Rattle.tables.specs.Steps.{Released};
 ghost use Rattle.entries.specs.Entries.{entry};
-ghost use Rattle.estimates.specs.Rounds.{greatest, lagging, Costs, CostOf, NextRound, Lowers, Cheaper, opened, looked, Rests, Round};
+ghost use Rattle.estimates.specs.Rounds.{greatest, lagging, Costs, CostOf, NextRound, Lowers, Cheaper, atFirst, due, Rests, AfterRound};
 ghost use Rattle.estimates.specs.Earliest.{Earliest};
 use tables::Action;
 use tables::Answer;
@@ -129,8 +129,8 @@ fn estimate(release: u16, ready: u16) -> u16
 }
 
 // A job's first estimate: its release if its conditions are open, else 65,535.
-fn opened(conditions: u64, opening: u64, release: u16) -> u16
-    ensures { λ r. ⌜ r ≡ opened conditions opening release ⌝ }
+fn at_first(conditions: u64, opening: u64, release: u16) -> u16
+    ensures { λ r. ⌜ r ≡ atFirst conditions opening release ⌝ }
 {
     if facts::covers(opening, conditions) {
         return release;
@@ -147,14 +147,14 @@ fn first(l: Loaded, q: Ask) -> [u16; 24]
     let mut est = [65535u16; 24];
     for i in 0..n {
         let a = l.jobs[i];
-        est[i] = opened(a.conditions, q.opening, a.release);
+        est[i] = at_first(a.conditions, q.opening, a.release);
     }
     est
 }
 
 // A job's next estimate: by the costs where one of its conditions got cheaper, else the one it has.
 fn look(a: Action, est: u16, costs: &[u16; 64], cheaper: u64) -> u16
-    ensures { λ r. ⌜ r ≡ cond (looked (a .conditions) cheaper) (max (a .release) (greatest (a .conditions) (now (costs .entry)) 64)) est ⌝ }
+    ensures { λ r. ⌜ r ≡ cond (due (a .conditions) cheaper) (max (a .release) (greatest (a .conditions) (now (costs .entry)) 64)) est ⌝ }
 {
     if facts::meets(a.conditions, cheaper) {
         return estimate(a.release, greatest(a.conditions, costs));
@@ -165,7 +165,7 @@ fn look(a: Action, est: u16, costs: &[u16; 64], cheaper: u64) -> u16
 // One round more, from the facts that got cheaper in the round before to those that got cheaper in this one.
 fn round(l: Loaded, q: Ask, cheaper: u64, est: &mut [u16; 24], costs: &mut [u16; 64]) -> u64
     requires { ⌜ (q .jobs ≤ 24) × (length (now est) ≡ 24) × Costs (lagging (problem l q) (entry (now est)) (problem l q .gap)) (now costs) 64 × Rests (problem l q) (entry (now est)) cheaper ⌝ }
-    ensures { λ r. ⌜ Round (problem l q) (now (est .entry)) (now (costs .entry)) (now (est .exit)) (now (costs .exit)) r ⌝ }
+    ensures { λ r. ⌜ AfterRound (problem l q) (now (est .entry)) (now (costs .entry)) (now (est .exit)) (now (costs .exit)) r ⌝ }
 {
     let before = *costs;
     let gap = tables::gap(q);

@@ -9,7 +9,7 @@ use Rattle.rules.specs.Sums.{sum}
 use Rattle.rules.proofs.Sums.{cond-yes}
 use Rattle.tables.specs.Tables.{problem}
 use Rattle.entries.specs.Entries.{entry}
-use Rattle.estimates.specs.Rounds.{looked}
+use Rattle.estimates.specs.Rounds.{due}
 use Rattle.estimates.proofs.Laws.{unreached-costs, Standing, standing-first, standing-next, sum-less, solved}
 use Rattle.estimates.proofs.estimate_all.Statement.{statement}
 use Rattle.estimates.proofs.estimate_all.Tie as tie
@@ -18,7 +18,7 @@ abbrev Inv-loop : tie.InvT-loop
 Inv-loop l q needed costs₀ est₀ cheaper₀ costs est cheaper = (length est ≡ 24) × Standing (problem l q) est costs cheaper
 
 abbrev μ-loop : tie.MeasureT-loop
-μ-loop l q needed costs₀ est₀ cheaper₀ costs est cheaper = sum (entry est) (q .jobs) + cond (looked needed cheaper) 1 0
+μ-loop l q needed costs₀ est₀ cheaper₀ costs est cheaper = sum (entry est) (q .jobs) + cond (due needed cheaper) 1 0
 
 lower-all-requires : tie.Need-lower-all-requires Inv-loop μ-loop
 lower-all-requires c κs =
@@ -39,7 +39,7 @@ loop-less c =
     let b = d .before .before .before .before .before .before .before in
     omega (
       arith,
-      cond-yes (looked (b .needed .result) (l .cheaper)) 1 0 (test-yes (d .meets .ensures) (c .before .before .before .if1 .taken)),
+      cond-yes (due (b .needed .result) (l .cheaper)) 1 0 (test-yes (d .meets .ensures) (c .before .before .before .if1 .taken)),
       sum-less (problem (b .before .args .l) (b .before .args .q)) (l .est) (l .costs) _ _ (l .cheaper) _ (l .inv .1) (c .round .ensures) (b .needed .result),
     )
 

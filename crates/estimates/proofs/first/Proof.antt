@@ -6,13 +6,13 @@ use lib.ListN.{length, length-set}
 use Rattle.tables.specs.Tables.{jobAt, problem}
 use Rattle.entries.specs.Entries.{entry}
 use Rattle.entries.proofs.Laws.{stored}
-use Rattle.estimates.specs.Rounds.{opened}
+use Rattle.estimates.specs.Rounds.{atFirst}
 use Rattle.estimates.proofs.Laws.{first-is}
 use Rattle.estimates.proofs.first.Statement.{statement}
 use Rattle.estimates.proofs.first.Tie as tie
 
 abbrev Inv-loop : tie.InvT-loop
-Inv-loop q l n est₀ i₀ est i = (i ≤ n) × (length est ≡ 24) × ((k : ℕ) → k < i → entry est k ≡ opened (jobAt l k .conditions) (q .opening) (jobAt l k .release))
+Inv-loop q l n est₀ i₀ est i = (i ≤ n) × (length est ≡ 24) × ((k : ℕ) → k < i → entry est k ≡ atFirst (jobAt l k .conditions) (q .opening) (jobAt l k .release))
 
 abbrev μ-loop : tie.MeasureT-loop
 μ-loop q l n est₀ i₀ est i = n - i
@@ -20,7 +20,7 @@ abbrev μ-loop : tie.MeasureT-loop
 loop-again : tie.Need-loop-again Inv-loop μ-loop
 loop-again c =
     let l = c .before .before .before .loop in
-    (omega arith, simp length-set (l .inv .1), stored _ (l .est) (l .i) _ (omega (arith, l .inv .1)) (l .inv .2) (c .opened .ensures))
+    (omega arith, simp length-set (l .inv .1), stored _ (l .est) (l .i) _ (omega (arith, l .inv .1)) (l .inv .2) (c .at-first .ensures))
 
 returns : tie.Need-returns Inv-loop μ-loop
 returns c =

@@ -2,14 +2,14 @@ use borrow.Author.Needs.{needs}
 use mathlib.Core.Path.{_≡_, ap, _∙_}
 use Prim.Native.Nat.{max}
 use Rattle.entries.proofs.Laws.{cond-taken, cond-left}
-use Rattle.estimates.specs.Rounds.{looked}
+use Rattle.estimates.specs.Rounds.{due}
 use Rattle.estimates.proofs.look.Statement.{statement}
 use Rattle.estimates.proofs.look.Tie as tie
 
 returns : tie.Need-returns
 returns c =
     let d = c .before .before .before in
-    let e : d .meets .result ≡ looked (d .before .args .a .conditions) (d .before .args .cheaper) = d .meets .ensures in
+    let e : d .meets .result ≡ due (d .before .args .a .conditions) (d .before .args .cheaper) = d .meets .ensures in
     c .estimate .ensures ∙ ap (max _) (c .before .greatest .ensures) ∙ cond-taken _ e (c .before .before .if1 .taken)
 
 pub look-spec : {M : Type 1} → statement M
