@@ -22,9 +22,9 @@
 extern "C" {
 #endif
 
-/* The version that this header describes, 10,000 times the first number, 100 times the second, and the third: 1.4.0.
+/* The version that this header describes, 10,000 times the first number, 100 times the second, and the third: 1.5.0.
  * nuzzlefleece_version() returns that of the library linked; where the two differ, header and library are not of one build. */
-#define NUZZLEFLEECE_VERSION 10400
+#define NUZZLEFLEECE_VERSION 10500
 
 /* Sizes and limits. A fact is a number below the atom count; a word of facts has fact 0 in its lowest bit. */
 enum {
@@ -269,6 +269,15 @@ nuzzlefleece_read_answer nuzzlefleece_read_file(const uint8_t *file, size_t file
  */
 nuzzlefleece_answer nuzzlefleece_write_file(const nuzzlefleece_action *records, size_t lent, nuzzlefleece_save save,
     uint8_t *buffer, size_t buffer_length);
+
+/*
+ * Tidies a job file of which the first `used` bytes of the buffer are in use: its last save, notes included, moves to the front, and the
+ * bytes behind it become zero up to where those in use ended; what stands behind them is unchanged. The value is the new length in use,
+ * the save's distance plus 24, never more than before. Reading the bytes then in use gives what reading gave before, and tidying them
+ * again changes nothing and gives the same length. Refusals 1 to 9 and 20 of a reader, where 3 means that more bytes are said to be in
+ * use than the buffer has, and comes between 1 and 2.
+ */
+nuzzlefleece_answer nuzzlefleece_tidy(size_t used, uint8_t *buffer, size_t buffer_length);
 
 /*
  * Opening facts from a reading. A mark is a channel (0 temperature, 1 humidity), a level from -1000 to 1000 tenths and a fact below

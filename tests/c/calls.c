@@ -164,6 +164,11 @@ static void answer_writer(void) {
     print_with(answer, table, head[9]);
 }
 
+static void answer_tidying(void) {
+    nuzzlefleece_answer answer = nuzzlefleece_tidy(head[6], table, head[9]);
+    print_with(answer, table, head[9]);
+}
+
 static void answer_readings(void) {
     static int16_t levels[MOST_OUT];
     nuzzlefleece_reading reading;
@@ -208,6 +213,9 @@ static void answer_call(void) {
         break;
     case 11:
         answer_clash();
+        break;
+    case 12:
+        answer_tidying();
         break;
     default:
         printf("unknown");

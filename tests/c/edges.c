@@ -1,6 +1,7 @@
 /*
- * Calls every function of the C library on the scope's example P3, with warm released later, under rule 2, on jobs that clash, with nothing
- * lent and with bad input, and holds each answer to the scope's numbers. Last line: 'N passed, M failed'; any failure gives status 1.
+ * Calls every function of the C library on the scope's example P3, with warm released later, under rule 2, on jobs that clash, on full
+ * files, with nothing lent and with bad input, and holds each answer to the scope's numbers. Last line: 'N passed, M failed'; any failure
+ * gives status 1.
  */
 #include <stdio.h>
 #include <string.h>
@@ -349,6 +350,95 @@ static void answers_files(void) {
     says("a full file", nuzzlefleece_write_file(p3, 4, save, file, sizeof file), NUZZLEFLEECE_FILE_TOO_LONG, 0, 0);
 }
 
+/* A buffer in which saves of P3 stand one behind the other as often as a file takes them, and a byte behind it. */
+static size_t fill_buffer(uint8_t *buffer, size_t length) {
+    nuzzlefleece_save save = {p3_ask, 0};
+    nuzzlefleece_answer answer = nuzzlefleece_write_file(p3, 4, save, buffer, length);
+    while (answer.number == NUZZLEFLEECE_DONE) {
+        save.used = answer.value;
+        answer = nuzzlefleece_write_file(p3, 4, save, buffer, length);
+    }
+    says("no more room in the file", answer, NUZZLEFLEECE_FILE_TOO_LONG, 0, 0);
+    return save.used;
+}
+
+static int all_are(const uint8_t *bytes, size_t count, uint8_t byte) {
+    size_t i = 0;
+    while (i < count && bytes[i] == byte) {
+        i++;
+    }
+    return i == count;
+}
+
+/* A full file is tidied, written to again, and read as before; a second tidying changes nothing. */
+static void tidies_full_files(void) {
+    static uint8_t buffer[NUZZLEFLEECE_MOST_FILE + 8], once[NUZZLEFLEECE_MOST_FILE + 8];
+    nuzzlefleece_action back[4] = {{.duration = 0}};
+    nuzzlefleece_save save = {p3_ask, 152};
+    size_t used;
+    memset(buffer, 9, sizeof buffer);
+    used = fill_buffer(buffer, sizeof buffer);
+    expect("431 saves", used == 431 * 152);
+    memcpy(once, buffer, sizeof once);
+    says("tidy", nuzzlefleece_tidy(used, buffer, sizeof buffer), 0, 0, 152);
+    expect("the last save at the front", memcmp(buffer, once + used - 152, 152) == 0);
+    expect("zeros behind it", all_are(buffer + 152, used - 152, 0));
+    expect("what stood behind stays", all_are(buffer + used, sizeof buffer - used, 9));
+    says("read after tidying", nuzzlefleece_read_file(buffer, 152, back, 4).answer, 0, 0, 0);
+    expect("the jobs of before", back[0].deletions == 1 && back[3].duration == 3);
+    memcpy(once, buffer, sizeof once);
+    says("tidy again", nuzzlefleece_tidy(152, buffer, sizeof buffer), 0, 0, 152);
+    expect("nothing changed", memcmp(buffer, once, sizeof once) == 0);
+    says("there is room again", nuzzlefleece_write_file(p3, 4, save, buffer, sizeof buffer), 0, 0, 304);
+}
+
+/* A save of P3 with notes that reach from its records to the end of a full file, or one byte further. */
+static void tidies_notes(void) {
+    static uint8_t buffer[NUZZLEFLEECE_MOST_FILE + 1], once[NUZZLEFLEECE_MOST_FILE + 1];
+    nuzzlefleece_save save = {p3_ask, 0};
+    size_t end = NUZZLEFLEECE_MOST_FILE;
+    memset(buffer, 9, sizeof buffer);
+    says("a save", nuzzlefleece_write_file(p3, 4, save, buffer, 152), 0, 0, 152);
+    memcpy(buffer + end - 24, buffer + 128, 20);
+    buffer[end - 4] = (uint8_t)(end - 24);
+    buffer[end - 3] = (uint8_t)((end - 24) >> 8);
+    buffer[end - 2] = buffer[end - 1] = 0;
+    memcpy(once, buffer, sizeof once);
+    says("notes to the end", nuzzlefleece_tidy(end, buffer, sizeof buffer), 0, 0, (unsigned)end);
+    says("65,537 bytes", nuzzlefleece_tidy(end + 1, buffer, sizeof buffer), NUZZLEFLEECE_FILE_TOO_LONG, 0, 0);
+    expect("no byte moved", memcmp(buffer, once, sizeof once) == 0);
+    memmove(buffer + 40, buffer, 128);
+    buffer[end - 4] = (uint8_t)(end - 24 - 40);
+    says("notes longer than all before them", nuzzlefleece_tidy(end, buffer, end), 0, 0, (unsigned)end - 40);
+    expect("the records at the front", memcmp(buffer, once, 128) == 0 && all_are(buffer + 128, 24, 9));
+    expect("the trailer, then zeros", memcmp(buffer + end - 64, once + end - 24, 20) == 0 && all_are(buffer + end - 40, 40, 0));
+    expect("the byte behind", buffer[end] == 9);
+}
+
+/* What tidying refuses, and that it then changes nothing. */
+static void refuses_to_tidy(void) {
+    static uint8_t buffer[176], once[176];
+    nuzzlefleece_save save = {p3_ask, 10};
+    memset(buffer, 9, sizeof buffer);
+    says("a save behind ten bytes", nuzzlefleece_write_file(p3, 4, save, buffer, sizeof buffer), 0, 0, 162);
+    memcpy(once, buffer, sizeof once);
+    says("more in use than there is", nuzzlefleece_tidy(163, buffer, 162), NUZZLEFLEECE_LENT_TOO_SHORT, 0, 0);
+    says("1 before 3", nuzzlefleece_tidy(65537, buffer, 162), NUZZLEFLEECE_FILE_TOO_LONG, 0, 0);
+    says("the longest use", nuzzlefleece_tidy((size_t)-1, buffer, 162), NUZZLEFLEECE_FILE_TOO_LONG, 0, 0);
+    says("a byte of the save missing", nuzzlefleece_tidy(161, buffer, sizeof buffer), NUZZLEFLEECE_FILE_DAMAGED, 0, 0);
+    says("23 bytes", nuzzlefleece_tidy(23, buffer, sizeof buffer), NUZZLEFLEECE_FILE_DAMAGED, 0, 0);
+    expect("nothing moved", memcmp(buffer, once, sizeof once) == 0);
+    buffer[10 + 2 * 32 + 31] = once[10 + 2 * 32 + 31] = 1;
+    says("one of the four bytes", nuzzlefleece_tidy(162, buffer, sizeof buffer), NUZZLEFLEECE_FILE_DAMAGED, 0, 0);
+    buffer[10 + 2 * 32 + 31] = once[10 + 2 * 32 + 31] = 0;
+    buffer[10 + 2 * 32 + 27] = once[10 + 2 * 32 + 27] = 255;
+    says("a release over 2,880", nuzzlefleece_tidy(162, buffer, sizeof buffer), NUZZLEFLEECE_RELEASE_WRONG, 2, 0);
+    expect("nothing moved on damage", memcmp(buffer, once, sizeof once) == 0);
+    buffer[10 + 2 * 32 + 27] = 0;
+    says("in order again", nuzzlefleece_tidy(162, buffer, sizeof buffer), 0, 0, 152);
+    expect("ten zeros and the bytes behind", all_are(buffer + 152, 10, 0) && all_are(buffer + 162, 14, 9));
+}
+
 /* The facts from a reading are held to the number, the place and the facts; there is no second number. */
 static void opens(const char *what, nuzzlefleece_opening o, unsigned number, unsigned place, uint64_t facts) {
     expect(what, o.number == number && o.second == 0 && o.place == place && o.facts == facts);
@@ -388,6 +478,8 @@ static void takes_null(void) {
     says("null: settle", nuzzlefleece_settle(NULL, 0, ask, NULL, 0, NULL, 0), 0, 0, 0);
     says("null: read file", nuzzlefleece_read_file(NULL, 0, NULL, 0).answer, NUZZLEFLEECE_FILE_DAMAGED, 0, 0);
     says("null: write file", nuzzlefleece_write_file(NULL, 0, save, NULL, 0), NUZZLEFLEECE_LENT_TOO_SHORT, 0, 0);
+    says("null: tidy", nuzzlefleece_tidy(0, NULL, 0), NUZZLEFLEECE_FILE_DAMAGED, 0, 0);
+    says("null: tidy a byte", nuzzlefleece_tidy(1, NULL, 0), NUZZLEFLEECE_LENT_TOO_SHORT, 0, 0);
     says("null: page", nuzzlefleece_page(NULL, 0, NULL, 0), NUZZLEFLEECE_LENT_TOO_SHORT, 0, 0);
     ask.goals = 2;
     says("null: a goal that nothing adds", nuzzlefleece_least_bound(NULL, 0, ask, NULL, 0), NUZZLEFLEECE_NO_PLAN, 0, 65535);
@@ -455,6 +547,9 @@ int main(void) {
     looks_at_facts_alone();
     carries_the_fact();
     answers_files();
+    tidies_full_files();
+    tidies_notes();
+    refuses_to_tidy();
     answers_readings();
     takes_null();
     refuses_tables();

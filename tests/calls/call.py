@@ -5,6 +5,7 @@ from typing import NamedTuple
 KINDS = {
     1: 'check plan', 2: 'plan within bound', 3: 'least bound', 4: 'supports', 5: 'binding pairs',
     6: 'estimates', 7: 'settle', 8: 'read file', 9: 'write file', 10: 'opening facts', 11: 'why jobs clash',
+    12: 'tidy file',
 }
 WORDS = 16
 RECORD = struct.Struct('<QQQHH4s')
@@ -40,7 +41,7 @@ class Call:
 
     def demand_within_limits(self):
         kind, head = self.head[0], self.head
-        most = MOST_FILE if kind in (8, 9) else MOST_TABLE
+        most = MOST_FILE if kind in (8, 9, 12) else MOST_TABLE
         lengths = head[9:12] if kind == 10 else []
         fits = (len(self.records) <= MOST_RECORDS and len(self.table) <= most and head[2] <= 255
                 and head[5] <= 65535 and max(lengths, default=0) <= MOST_MARKS
@@ -65,17 +66,24 @@ def with_trailer(file, at, data):
     return file[:at] + data + file[at + len(data):]
 
 
+def file_end(call):
+    """Where the file ends that a call reads or tidies, which may be behind the bytes that there are."""
+    return call.head[6] if call.head[0] == 12 else len(call.table)
+
+
 def atom_byte(call):
-    """The atom count of a call, or of the file that it reads, with its mark; None where there is none."""
-    if call.head[0] == 8:
-        return call.table[ATOMS_AT - TRAILER] if len(call.table) >= TRAILER else None
+    """The atom count of a call, or of the file that it reads or tidies, with its mark; None where there is none."""
+    if call.head[0] in (8, 12):
+        end = file_end(call)
+        return call.table[end - TRAILER + ATOMS_AT] if TRAILER <= end <= len(call.table) else None
     return None if call.head[0] in (10, 11) else call.head[2]
 
 
 def with_atom_byte(call, byte):
     """The same call with another atom count."""
-    if call.head[0] == 8:
-        return Call(call.head, call.records, with_trailer(call.table, ATOMS_AT, bytes([byte])))
+    if call.head[0] in (8, 12):
+        end = file_end(call)
+        return Call(call.head, call.records, with_trailer(call.table[:end], ATOMS_AT, bytes([byte])) + call.table[end:])
     return Call([*call.head[:2], byte, *call.head[3:]], call.records, call.table)
 
 
@@ -146,8 +154,12 @@ def given_text(call):
         return [f'set {facts_text(head[6])}, pair count {head[7]}, {len(table)} bytes of pairs: '
                 + ' '.join(pairs[:600])]
     if kind == 9:
-        return [f'bytes in use {head[6]}', bytes_text('buffer', table)]
+        return buffer_text(call)
     return []
+
+
+def buffer_text(call):
+    return [f'bytes in use {call.head[6]}', bytes_text('buffer', call.table)]
 
 
 def readings_text(call):
@@ -170,6 +182,8 @@ def call_text(call):
         lines = [f'{head[8]} records lent', bytes_text('file', call.table)]
     elif kind == 11:
         lines = [job_text(job) for job in call.records]
+    elif kind == 12:
+        lines = buffer_text(call)
     else:
         lines = table_text(call) + given_text(call)
     if kind in (2, 3, 4, 5, 6, 7):

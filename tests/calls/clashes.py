@@ -69,7 +69,7 @@ def drawn_pairs(dice):
 
 def no_pairs(dice):
     """No kind of call, and a clash of one record and of three."""
-    yield Call([12])
+    yield Call([255])
     yield from (Call([11] + [0] * 7 + [lent], [Job(1, 1, 1, 1)] * lent) for lent in (1, 3))
 
 

@@ -19,13 +19,18 @@ def refused(number, place=0, second=0):
 DONE = refused(0)
 
 
-def hold(name, stream):
-    """Runs the calls through PRODUCT (the C library's own program) and compares line by line; ends with status 1 at the first that differs."""
-    given = b''.join(call.pack() for call, _ in stream)
+def answers_to(calls):
+    """What PRODUCT (the C library's own program) says, a line a call."""
+    given = b''.join(call.pack() for call in calls)
     told = subprocess.run(shlex.split(PRODUCT), input=given, stdout=subprocess.PIPE, check=True).stdout.decode().split('\n')
-    if len(told) != len(stream) + 1 or told[-1]:
-        sys.exit(f'{name}: {len(told) - 1} answers to {len(stream)} calls')
-    for (call, wanted), answer in zip(stream, told):
+    if len(told) != len(calls) + 1 or told[-1]:
+        sys.exit(f'{len(told) - 1} answers to {len(calls)} calls')
+    return told[:-1]
+
+
+def hold(name, stream):
+    """Compares what PRODUCT says line by line; ends with status 1 at the first that differs."""
+    for (call, wanted), answer in zip(stream, answers_to([call for call, _ in stream])):
         if answer != wanted:
             sys.exit(f'{name}: a call differs\n{call_text(call)}\nwanted: {wanted[:SHOWN]}\ngot:    {answer[:SHOWN]}')
     print(f'{name}: {len(stream)} calls as the scope says')

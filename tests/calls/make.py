@@ -15,6 +15,7 @@ import gaps
 import readings
 import releases
 import rounds
+import tidies
 from call import Call, Job
 from draft import (FAULTS, HYGIENE, LATE, MOST, OFFERED, ON_TIME, TABLED, Draft, base_draft, cut_to_limits, each_fault,
                    landed)
@@ -27,6 +28,7 @@ GAP_SEED, GAP_DRAWN = 20060725, 600
 CLASH_SEED = 20070725
 TENTHS_SEED = 20080725
 ROUNDS_SEED = 20090725
+TIDY_SEED, TIDY_DRAWN = 20100725, 600
 
 
 def planned_table(dice, crates):
@@ -297,6 +299,10 @@ def drawn(dice, count, crates):
         yield dice.choices(families, weights)[0](dice, crates)
 
 
+def some_tidies(dice):
+    yield from (tidies.drawn(dice) for _ in range(TIDY_DRAWN))
+
+
 def mixed(seed, walks, count=0, crates=ON_TIME):
     """Every walk, then drawn calls, in a mixed order."""
     dice = random.Random(seed)
@@ -308,15 +314,16 @@ def mixed(seed, walks, count=0, crates=ON_TIME):
 
 def corpus():
     """The fixed calls: those that stood before there were releases, unchanged, behind them those with releases, those
-    under rule 2, those on clashes, those beside halves of a tenth, and last estimates that take many rounds."""
+    under rule 2, those on clashes, those beside halves of a tenth, estimates that take many rounds, and last files to tidy."""
     return (mixed(SEED, WALKS, DRAWN, ON_TIME) + mixed(LATE_SEED, releases.WALKS, LATE_DRAWN, LATE)
             + mixed(GAP_SEED, gaps.WALKS, GAP_DRAWN, HYGIENE) + mixed(CLASH_SEED, clashes.WALKS)
-            + mixed(TENTHS_SEED, (readings.beside_halves,)) + mixed(ROUNDS_SEED, rounds.WALKS))
+            + mixed(TENTHS_SEED, (readings.beside_halves,)) + mixed(ROUNDS_SEED, rounds.WALKS)
+            + mixed(TIDY_SEED, (*tidies.WALKS, some_tidies)))
 
 
 def more(count, seed):
-    """A tenth of the calls on clashes, one in fifty beside halves of a tenth, one in fifty for estimates that take many rounds; of
-    the others half under rule 2, half of all on tables with releases."""
+    """A tenth of the calls on clashes, one in fifty beside halves of a tenth, one in fifty for estimates that take many rounds, one in
+    twenty on files to tidy; of the others half under rule 2, half of all on tables with releases."""
     dice = random.Random(seed)
     for _ in range(count):
         chance = dice.random()
@@ -326,6 +333,8 @@ def more(count, seed):
             yield readings.rounded(dice)
         elif chance < 0.14:
             yield rounds.drawn(dice)
+        elif chance < 0.19:
+            yield tidies.drawn(dice)
         else:
             yield from drawn(dice, 1, dice.choice((ON_TIME, LATE, HYGIENE, HYGIENE)))
 

@@ -5,8 +5,8 @@ use mathlib.Core.List.{List, [], _∷_, _++_, append-assoc}
 use Prim.Native.Nat.{ℕ, suc, _+_, _-_, _/_, _%_, _^_, _≤_, _<_}
 use native.Mathlib.Numerals.{add-one}
 use native.Mathlib.Omega.{arith}
-use lib.ListN.{length, take, drop, set, length-append, length-take, length-drop, take-append-drop}
-use lib.Seq.{drop-append-le, drop-cons, drop-drop, take-at, drop-at, set-at, append-snoc, take-append-add, drop-append-add, length-take-le}
+use lib.ListN.{length, getD, take, drop, set, length-append, length-take, length-drop, take-append-drop}
+use lib.Seq.{drop-append-le, drop-cons, drop-drop, take-all, take-at, drop-at, set-at, append-snoc, take-append-add, drop-append-add, length-take-le, getD-append-add, getD-drop}
 use Rattle.bytes_le.specs.Little.{little, atFront, laid}
 use Rattle.bytes_le.proofs.Numbers.{length-little, little-more}
 
@@ -44,20 +44,32 @@ laid-then v w at xs to {ys} e l h k =
     place : to ≡ length p + length v
     place = omega (arith, length-take-le at xs l)
 
+-- one byte more behind those laid over the first places
+pub over-one : (w xs : List ℕ) (k b : ℕ) → length w ≡ k → k < length xs → set (atFront w xs) k b ≡ atFront (w ++ (b ∷ [])) xs
+over-one w xs k b e l =
+    ap (λ (t : List ℕ). set (w ++ t) k b) (drop-cons xs (length w) 0 (omega arith))
+    ∙ set-at w _ _ b k e
+    ∙ sym (append-snoc w b _)
+    ∙ ap (λ (t : List ℕ). w ++ (b ∷ []) ++ t) (ap (λ (n : ℕ). drop n xs) n)
+  where
+    n : suc (length w) ≡ length (w ++ (b ∷ []))
+    n = omega (arith, length-append w (b ∷ []))
+
+-- what stands behind them is as it was
+pub over-rest : (w xs : List ℕ) (i : ℕ) → length w ≤ i → getD (atFront w xs) i 0 ≡ getD xs i 0
+over-rest w xs i l =
+    let e : i ≡ length w + (i - length w) = omega arith in
+    ap (λ (n : ℕ). getD (atFront w xs) n 0) e ∙ getD-append-add w (drop (length w) xs) (i - length w) 0 ∙ getD-drop (length w) xs (i - length w) 0 ∙ sym (ap (λ (n : ℕ). getD xs n 0) e)
+
 -- one byte more of a number
 pub over-more : (k v : ℕ) (xs : List ℕ) → k < length xs → set (atFront (little k v) xs) k (v / 256 ^ k % 256) ≡ atFront (little (k + 1) v) xs
 over-more k v xs l =
-    ap (λ (t : List ℕ). set (little k v ++ t) k b) (drop-cons xs (length (little k v)) 0 (omega (arith, length-little k v)))
-    ∙ set-at (little k v) _ _ b k (length-little k v)
-    ∙ sym (append-snoc (little k v) b _)
-    ∙ ap (λ (t : List ℕ). little k v ++ (b ∷ []) ++ t) (ap (λ (n : ℕ). drop n xs) n)
+    over-one (little k v) xs k (v / 256 ^ k % 256) (length-little k v) l
     ∙ ap (λ (w : List ℕ). atFront w xs) (sym (little-more k v) ∙ ap (λ (m : ℕ). little m v) (sym (add-one k)))
-  where
-    b : ℕ
-    b = v / 256 ^ k % 256
 
-    n : suc (length (little k v)) ≡ length (little k v ++ (b ∷ []))
-    n = omega (arith, length-append (little k v) (b ∷ []))
+-- the tail of a list, as it is lent from a place on
+pub tail-all : (n : ℕ) (xs : List ℕ) → take (length xs - n) (drop n xs) ≡ drop n xs
+tail-all n xs = take-all (length xs - n) (drop n xs) (omega (arith, length-drop n xs))
 
 -- the tail of a list is lent from place `at`, and comes back with w laid over it
 pub tail-back : (w : List ℕ) (at : ℕ) (xs : List ℕ) {ys : List ℕ} → ys ≡ atFront w (take (length xs - at) (drop at xs)) → at + length w ≤ length xs

@@ -1,26 +1,27 @@
--- The bytes that must be zero, and the checks of a writer as one list.
+-- The bytes that must be zero, and the checks of a reader and of a writer as one list each.
 -- Assumes nothing.
-use mathlib.Core.Path.{_≡_}
-use mathlib.Core.Bool.{Bool, not}
+use mathlib.Core.Path.{_≡_, refl}
+use mathlib.Core.Bool.{Bool, true, false, not, cond}
 use mathlib.Core.List.{List}
 use Prim.Native.Nat.{ℕ, _+_}
 use native.Mathlib.Omega.{arith}
 use lib.Dec.{T, eqb, ltb, eqb→eq, T-not}
-use lib.ListN.{getD}
+use lib.ListN.{length, getD}
 use Rattle.facts.specs.Least.{any}
 use Rattle.facts.proofs.Bools.{same, certain, not-eqb, eqb-not}
 use Rattle.facts.proofs.Least.{any-of, any-at}
-use Rattle.refusals.specs.Refusals.{accepted, refuseIf}
-use Rattle.refusals.proofs.Refused.{if-checks, then-checks}
+use Rattle.refusals.specs.Refusals.{Verdict, accepted, refuseIf}
+use Rattle.refusals.proofs.Refused.{Checks, if-checks, then-checks}
 use Rattle.tables.specs.declared.Loaded.{Loaded}
 use Rattle.tables.specs.declared.Ask.{Ask}
-use Rattle.tables.specs.Tables.{callChecks}
+use Rattle.tables.specs.declared.Answer.{Answer}
+use Rattle.tables.specs.Tables.{answerOf, callChecks}
 use Rattle.tables.proofs.Laws.{accepts}
 use Rattle.tables.proofs.Calls.{call-checks}
 use Rattle.bytes_le.specs.Little.{number}
 use Rattle.bytes_le.proofs.Numbers.{zeros-number, number-zeros}
-use Rattle.jobfile.specs.Format.{lengthAfter}
-use Rattle.jobfile.specs.Calls.{writeChecks}
+use Rattle.jobfile.specs.Format.{lengthAfter, trailerAt, trailerIn, askIn, distanceIn, tooFar, recordsIn, spoilt, tableIn}
+use Rattle.jobfile.specs.Calls.{readChecks, whole, nothing, reading, writeChecks}
 
 -- a number of k bytes is not 0 exactly where one of them is not
 pub any-test : (k : ℕ) (xs : List ℕ) (at : ℕ) → not (eqb (number k xs at) 0) ≡ any (λ j. not (eqb (getD xs (at + j) 0) 0)) k
@@ -42,3 +43,31 @@ write-accepts l q used size z = accepts {C = λ v. refuseIf (ltb 65536 n) 1 0 (c
   where
     n : ℕ
     n = lengthAfter used (q .jobs)
+
+-- ── the reader ──
+
+module _ (file : List ℕ) (room : ℕ) where
+  abbrev q : Ask
+  q = askIn (trailerIn file)
+
+  -- its checks, and others behind them
+  abbrev pub readThen : Verdict → Verdict
+  readThen v =
+      refuseIf (ltb 65536 (length file)) 1 0 (refuseIf (ltb (length file) 24) 2 0 (refuseIf (tooFar (distanceIn (trailerIn file)) (q .jobs) (trailerAt file)) 2 0
+      (refuseIf (any (spoilt (recordsIn file)) (q .jobs)) 2 0 (callChecks false (q .bound) (tableIn (recordsIn file) (q .jobs) room) q v))))
+
+  pub read-checks : Checks readThen
+  read-checks =
+      then-checks (if-checks _ 1 0 (omega arith)) (then-checks (if-checks _ 2 0 (omega arith)) (then-checks (if-checks _ 2 0 (omega arith))
+      (then-checks (if-checks _ 2 0 (omega arith)) (call-checks false (q .bound) (tableIn (recordsIn file) (q .jobs) room) q))))
+
+  -- whatever the checks say, the answer says it
+  pub reading-says : reading file room .answer ≡ answerOf (readChecks file room) 0 0
+  reading-says = go (eqb (readChecks file room .number) 0)
+    where
+      a : Answer
+      a = answerOf (readChecks file room) 0 0
+
+      go : (b : Bool) → cond b (whole a q (tableIn (recordsIn file) (q .jobs) room)) (nothing a) .answer ≡ a
+      go true = refl
+      go false = refl

@@ -38,14 +38,15 @@ abbrev tableOf : List ℕ → (room : ℕ) → Loaded
 tableOf file room = tableIn (recordsIn file) (askOf file .jobs) room
 
 -- what the checks of the reader passed
-record Fine (file : List ℕ) : Type 0 where
-  long : 24 ≤ length file
-  far : 32 * askOf file .jobs ≤ distanceIn (trailerIn file)
-  near : distanceIn (trailerIn file) ≤ trailerAt file
-  clean : T (any (spoilt (recordsIn file)) (askOf file .jobs)) → ⊥
-  count : askOf file .jobs ≤ 24
+pub record Fine (file : List ℕ) : Type 0 where
+  pub short : length file ≤ 65536
+  pub long : 24 ≤ length file
+  pub far : 32 * askIn (trailerIn file) .jobs ≤ distanceIn (trailerIn file)
+  pub near : distanceIn (trailerIn file) ≤ trailerAt file
+  pub clean : T (any (spoilt (recordsIn file)) (askIn (trailerIn file) .jobs)) → ⊥
+  pub count : askIn (trailerIn file) .jobs ≤ 24
 
-fine : (file : List ℕ) (room : ℕ) → readChecks file room ≡ accepted → Fine file
+pub fine : (file : List ℕ) (room : ℕ) → readChecks file room ≡ accepted → Fine file
 unfolding readChecks saveChecks
 fine file room h =
     let a = if-zero (ltb 65536 (length file)) 1 0 _ (omega arith) h in
@@ -53,6 +54,7 @@ fine file room h =
     let c = if-zero (tooFar d n (trailerAt file)) 2 0 _ (omega arith) (b .1) in
     let e = if-zero (any (spoilt (recordsIn file)) n) 2 0 _ (omega arith) (c .1) in
     record {
+      short = at-most 65536 (length file) (a .0);
       long = at-most (length file) 24 (b .0);
       far = at-most d (32 * n) (λ x. c .0 (or-l (ltb d (32 * n)) _ x));
       near = at-most (trailerAt file) d (λ x. c .0 (or-r (ltb d (32 * n)) _ x));

@@ -3,4 +3,5 @@ pub mod Saves
 pub mod Same
 pub mod Back
 pub mod Form
+pub mod Tidy
 pub mod Old

@@ -65,6 +65,10 @@ distanceIn t = number 4 t 20
 abbrev pub tooFar : (distance jobs before : ℕ) → Bool
 tooFar d n m = ltb d (32 * n) || ltb m d
 
+-- how long the last save is, its notes included: the distance, and the trailer's 24 bytes
+abbrev pub saveLength : List ℕ → ℕ
+saveLength file = distanceIn (trailerIn file) + 24
+
 -- the records: what stands before and after them is passed over
 abbrev pub recordsIn : List ℕ → List ℕ
 recordsIn file = take (32 * askIn (trailerIn file) .jobs) (drop (trailerAt file - distanceIn (trailerIn file)) file)

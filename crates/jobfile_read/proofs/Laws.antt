@@ -8,8 +8,7 @@ use native.Mathlib.Numerals.{add-one}
 use native.Mathlib.Omega.{arith}
 use borrow.Author.Tests.{eq-eqb, ne-eqb}
 use lib.Dec.{T}
-use lib.ListN.{length, take, drop, length-drop}
-use lib.Seq.{take-all}
+use lib.ListN.{take, drop}
 use Rattle.refusals.specs.Refusals.{Verdict, refused}
 use Rattle.refusals.proofs.Refused.{if-hit, if-pass}
 use Rattle.tables.specs.declared.Loaded.{Loaded}
@@ -43,9 +42,6 @@ gives {a} {v} q l h z =
     ∙ sym (ap (λ (b : Bool). cond b (whole (answerOf v 0 0) q l) (nothing (answerOf v 0 0))) (eq-eqb (v .number) 0 (ap (λ (x : Answer). x .number) (sym h) ∙ z)))
 
 -- ── where the records stand ──
-
-pub tail-all : (n : ℕ) (file : List ℕ) → take (length file - n) (drop n file) ≡ drop n file
-tail-all n file = take-all (length file - n) (drop n file) (omega (arith, length-drop n file))
 
 pub part-all : (n k : ℕ) (file : List ℕ) → take (n + k - n) (drop n file) ≡ take k (drop n file)
 part-all n k file = let e : n + k - n ≡ k = omega arith in ap (λ (m : ℕ). take m (drop n file)) e

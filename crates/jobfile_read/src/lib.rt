@@ -4,7 +4,7 @@ ghost use Prim.Native.Nat.{_+_, _*_, _≤_, _<_};
 ghost use lib.ListN.{length};
 ghost use Rattle.facts.specs.Least.{any};
 ghost use Rattle.tables.specs.Steps.{Tests};
-ghost use Rattle.jobfile.specs.Format.{tooFar, spoilt, actionIn, firstOf, tableIn};
+ghost use Rattle.jobfile.specs.Format.{distanceIn, tooFar, spoilt, actionIn, firstOf, tableIn};
 ghost use Rattle.jobfile.specs.Calls.{recordChecks, saveChecks, handed, handedFrom, nothing, reading};
 ghost use Rattle.jobfile_read.specs.Steps.{TrailerAsk};
 use bytes_le::number;
@@ -79,6 +79,14 @@ fn ask_in(trailer: &[u8]) -> Ask
     }
 }
 
+// The distance back from the trailer's start to the first record.
+pub fn distance_in(trailer: &[u8]) -> usize
+    requires { ⌜ length (now trailer) ≡ 24 ⌝ }
+    ensures { λ r. ⌜ r ≡ distanceIn (now (trailer .entry)) ⌝ }
+{
+    number(trailer, 20, 4) as usize
+}
+
 // The distance is out of range.
 fn too_far(distance: usize, jobs: usize, before: usize) -> bool
     requires { ⌜ jobs < 256 ⌝ }
@@ -138,7 +146,7 @@ fn read_save(file: &[u8], room: usize) -> Read
     let start = n - 24;
     let trailer = &file[start..];
     let q = ask_in(trailer);
-    let distance = number(trailer, 20, 4) as usize;
+    let distance = distance_in(trailer);
     let jobs = q.jobs;
     if too_far(distance, jobs, start) {
         return nothing(tables::refuse(2, 0, 0));

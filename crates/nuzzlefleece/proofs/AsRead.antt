@@ -23,7 +23,8 @@ use Rattle.records.specs.Records.{loaded}
 use Rattle.records.proofs.Lies.{loaded-at}
 use Rattle.nuzzlefleece.specs.declared.ReadAnswer.{ReadAnswer}
 use Rattle.nuzzlefleece.specs.Files.{Reads}
-use Rattle.nuzzlefleece.proofs.Fits.{reading-fits, reading-says}
+use Rattle.jobfile.proofs.Checks.{reading-says}
+use Rattle.nuzzlefleece.proofs.Fits.{reading-fits}
 
 -- 255 records of zeros
 abbrev pub blanks : List Action

@@ -14,9 +14,10 @@ use Rattle.refusals.specs.Refusals.{Verdict, refuseIf}
 use Rattle.tables.specs.declared.Loaded.{Loaded}
 use Rattle.tables.specs.declared.Ask.{Ask}
 use Rattle.tables.specs.declared.Answer.{Answer}
-use Rattle.tables.specs.Tables.{jobAt, filled, answerOf}
+use Rattle.tables.specs.Tables.{jobAt, filled}
 use Rattle.jobfile.specs.Format.{trailerIn, askIn, recordsIn, tableIn}
 use Rattle.jobfile.specs.Calls.{saveChecks, readChecks, whole, nothing, reading}
+use Rattle.jobfile.proofs.Checks.{reading-says}
 use Rattle.tables.proofs.Laws.{accepts}
 use Rattle.tables.proofs.Calls.{call-checks, cleared}
 use Rattle.tables.specs.declared.Action.{Action}
@@ -50,14 +51,6 @@ pub reading-fits : (file : List ℕ) (room : ℕ) → Fit (reading file room .as
 reading-fits file room = either-fits (eqb (readChecks file room .number) 0) _ _ _ room (λ e. accepted-fits file room (eqb-true (readChecks file room .number) 0 e))
 
 -- ── refusal ──
-
--- whatever the checks say, the answer says it
-either-says : (b : Bool) (a : Answer) (q : Ask) (l : Loaded) → cond b (whole a q l) (nothing a) .answer ≡ a
-either-says true a q l = refl
-either-says false a q l = refl
-
-pub reading-says : (file : List ℕ) (room : ℕ) → reading file room .answer ≡ answerOf (readChecks file room) 0 0
-reading-says file room = either-says (eqb (readChecks file room .number) 0) _ _ _
 
 either-old : (b : Bool) (a : Answer) (q : Ask) (l : Loaded) (old : List Action) → (b ≡ true → ⊥) → filled (jobAt (cond b (whole a q l) (nothing a) .table)) (cond b (whole a q l) (nothing a) .ask .jobs) old ≡ old
 unfolding filled

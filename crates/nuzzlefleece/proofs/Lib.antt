@@ -7,3 +7,4 @@ pub mod Only
 pub mod Seconds
 pub mod Back
 pub mod AsRead
+pub mod Tidied

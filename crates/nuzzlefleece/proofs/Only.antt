@@ -18,6 +18,8 @@ use Rattle.planning.specs.Planning.{PlansWithin, BoundsWithin}
 use Rattle.planning.proofs.Only as planning
 use Rattle.jobfile.specs.Calls.{Writes}
 use Rattle.jobfile_write.proofs.Only as jobfile_write
+use Rattle.jobfile.specs.Tidy.{Tidies}
+use Rattle.jobfile_tidy.proofs.Only as jobfile_tidy
 use Rattle.tables.specs.declared.Action.{Action}
 use Rattle.records.specs.Records.{loaded}
 use Rattle.nuzzlefleece.specs.declared.ReadAnswer.{ReadAnswer}
@@ -53,6 +55,9 @@ module _ (ts : List Action) (q : Ask) (r s : Answer) where
 -- what is saved is one struct
 pub write-file-only : (ts : List Action) (w : Save) (old new new′ : List ℕ) (r s : Answer) → Writes (loaded ts) (w .ask) (w .used) old new r → Writes (loaded ts) (w .ask) (w .used) old new′ s → (r ≡ s) × (new ≡ new′)
 write-file-only ts w old new new′ r s = jobfile_write.write-file-only (loaded ts) (w .ask) (w .used) old new new′ r s
+
+pub tidy-only : (used : ℕ) (old new new′ : List ℕ) (r s : Answer) → Tidies used old new r → Tidies used old new′ s → (r ≡ s) × (new ≡ new′)
+tidy-only = jobfile_tidy.tidy-only
 
 -- ── the reader ──
 

@@ -8,7 +8,7 @@ use Prim.Native.Nat.{ℕ, _+_, _*_, _/_}
 use native.Mathlib.Omega.{arith}
 use native.Mathlib.Decide.{ℕ-discrete}
 use lib.Dec.{ltb}
-use lib.ListN.{length}
+use lib.ListN.{length, take}
 use Rattle.facts.specs.Least.{any}
 use Rattle.refusals.specs.Refusals.{Verdict, accepted, refuseAt, Ruled}
 use Rattle.refusals.proofs.Refused.{Second, Checks, at-checks, if-second, seconds, went-on, stopped}
@@ -32,12 +32,13 @@ use Rattle.readings.specs.declared.BenchReading.{BenchReading}
 use Rattle.readings.specs.declared.Opening.{Opening}
 use Rattle.readings.specs.Marks.{Marks, bad}
 use Rattle.readings.specs.Opening.{markChecks, openingChecks, Opens}
-use Rattle.jobfile.specs.Format.{lengthAfter, trailerIn, askIn, recordsIn, spoilt, tableIn}
+use Rattle.jobfile.specs.Format.{lengthAfter, saveLength, trailerIn, askIn, recordsIn, spoilt, tableIn}
 use Rattle.jobfile.specs.Calls.{recordChecks, saveChecks, readChecks, writeChecks, Writes}
+use Rattle.jobfile.specs.Tidy.{tidyChecks, Tidies}
 use Rattle.page.specs.Page.{roomCheck, Pages}
 use Rattle.nuzzlefleece.specs.declared.ReadAnswer.{ReadAnswer}
 use Rattle.nuzzlefleece.specs.Files.{Reads}
-use Rattle.nuzzlefleece.proofs.Fits.{reading-says}
+use Rattle.jobfile.proofs.Checks.{reading-says}
 
 -- the answer has a second number only if it is 12
 abbrev pub Told12 : Answer → Type 0
@@ -129,6 +130,10 @@ reads file room = if-second _ 1 0 _ (if-second _ 2 0 _ (if-second _ 2 0 (recordC
 
 pub read-file-second : (file : List ℕ) (old new : List Action) (r : ReadAnswer) → Reads file old new r → Told12 (r .answer)
 read-file-second file old new r x = answered (readChecks file (length old)) 0 0 (reads file (length old)) (ap (λ (s : ReadAnswer). s .answer) (x .says) ∙ reading-says file (length old))
+
+pub tidy-second : (used : ℕ) (old new : List ℕ) (r : Answer) → Tidies used old new r → Told12 r
+unfolding tidyChecks
+tidy-second used old new r x = answered (tidyChecks used old) (saveLength (take used old)) 0 (if-second _ 1 0 _ (if-second _ 3 0 _ (reads (take used old) 255))) (x .says)
 
 pub page-second : (file old new : List ℕ) (r : Answer) → Pages file old new r → Told12 r
 page-second file old new r x = answered (roomCheck (length old)) (length (x .text)) 0 (if-second (ltb (length old) 8192) 3 0 accepted none) (x .says)

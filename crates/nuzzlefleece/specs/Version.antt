@@ -2,6 +2,6 @@
 -- Assumes nothing.
 use Prim.Native.Nat.{ℕ}
 
--- 1.4.0, as the header has it
+-- 1.5.0, as the header has it
 abbrev pub version : ℕ
-version = 10400
+version = 10500

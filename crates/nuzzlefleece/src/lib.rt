@@ -9,6 +9,7 @@ ghost use Rattle.estimates.specs.Earliest.{Earliest};
 ghost use Rattle.settle.specs.Settle.{Settling};
 ghost use Rattle.planning.specs.Planning.{PlansWithin, BoundsWithin};
 ghost use Rattle.jobfile.specs.Calls.{Writes};
+ghost use Rattle.jobfile.specs.Tidy.{Tidies};
 ghost use Rattle.records.specs.Records.{loaded};
 ghost use Rattle.nuzzlefleece.specs.Version.{version};
 ghost use Rattle.nuzzlefleece.specs.Files.{told, Reads};
@@ -29,7 +30,7 @@ use tables::Loaded;
 pub extern "C" fn nuzzlefleece_version() -> u32
     ensures { λ r. ⌜ r ≡ version ⌝ }
 {
-    10400
+    10500
 }
 
 // The verdict on an offered plan.
@@ -160,6 +161,14 @@ pub extern "C" fn nuzzlefleece_write_file(t: &[Action], s: Save, buf: &mut [u8])
 {
     let l = records::load(t);
     append(l, s, buf)
+}
+
+// Moves the last save of the bytes in use to the front of the buffer, and returns the new length.
+#[no_mangle]
+pub extern "C" fn nuzzlefleece_tidy(used: usize, buf: &mut [u8]) -> Answer
+    ensures { λ r. ⌜ Tidies used (now (buf .entry)) (now (buf .exit)) r ⌝ }
+{
+    jobfile_tidy::tidy(used, buf)
 }
 
 // Opening facts from a reading. The marks stand side by side in the three tables, the first `count` of each.

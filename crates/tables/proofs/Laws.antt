@@ -1,6 +1,6 @@
 -- What the tests of words and numbers in the code say of the checks, and what an answer says of its verdict.
 -- Assumes nothing.
-use mathlib.Core.Path.{_≡_, refl, sym, ap}
+use mathlib.Core.Path.{_≡_, refl, sym, ap, _∙_}
 use mathlib.Core.Bool.{Bool, true, false, not, cond, _&&_}
 use mathlib.Core.List.{List}
 use Prim.Native.Nat.{ℕ, zero, suc, _+_, _-_, _*_, _/_, _^_, _≤_, _<_}
@@ -97,3 +97,15 @@ changed-new v new old e = ap (λ (b : Bool). cond b new old) (eq-eqb (v .number)
 
 pub changed-old : {A : Type 0} (v : Verdict) (new old : List A) → (v .number ≡ 0 → ⊥) → changed v new old ≡ old
 changed-old v new old n = ap (λ (b : Bool). cond b new old) (ne-eqb (v .number) 0 n)
+
+-- ── a call that changes lent memory where its checks c accept ──
+
+-- a refusal is told, and lent memory is as it was
+pub left-so : {A : Type 0} {r : Answer} {c v : Verdict} (value : ℕ) (next old : List A) → r ≡ answerOf v 0 0 → c ≡ v → (v .number ≡ 0 → ⊥)
+    → (r ≡ answerOf c value 0) × (old ≡ changed c next old)
+left-so {c = c} {v = v} value next old e h n = (e ∙ answer-no v 0 value 0 n ∙ said value 0 h, sym (changed-old c next old (λ z. n (ap (λ (x : Verdict). x .number) (sym h) ∙ z))))
+
+-- success has the value, and lent memory is changed
+pub changed-so : {A : Type 0} {r : Answer} {c : Verdict} {new : List A} (value : ℕ) (next old : List A) → r ≡ answerOf accepted value 0 → c ≡ accepted → new ≡ next
+    → (r ≡ answerOf c value 0) × (new ≡ changed c next old)
+changed-so {A = A} value next old e h k = (e ∙ said value 0 h, k ∙ sym (ap (λ (v : Verdict). changed {A = A} v next old) h))

@@ -1,6 +1,6 @@
 //! A stream of calls: a header of 16 words, the lent records, the given tables; one line of answer a call.
 
-use crate::files::{job_bytes, job_from, read_file, write_file, Saved};
+use crate::files::{job_bytes, job_from, read_file, tidy, write_file, Saved};
 use crate::plan::{least_bound, plan_within};
 use crate::readings::{opening_facts, Marks, Reading};
 use crate::rules::{
@@ -129,9 +129,10 @@ impl Call {
                 0,
             ),
             8 => self.answer_reader(),
-            9 => self.answer_writer(),
+            9 => self.answer_in_buffer(|buffer| write_file(&self.given(), buffer, self.head[6])),
             10 => self.answer_readings(),
             11 => self.answer_clash(),
+            12 => self.answer_in_buffer(|buffer| tidy(buffer, self.head[6])),
             _ => unknown(),
         }
     }
@@ -158,9 +159,9 @@ impl Call {
         format!("{} {}", told_file(&result), hex(lent.iter().flat_map(job_bytes)))
     }
 
-    fn answer_writer(&self) -> String {
+    fn answer_in_buffer(&self, call: impl FnOnce(&mut [u8]) -> Result<u64, Refusal>) -> String {
         let mut buffer = self.table.clone();
-        let result = write_file(&self.given(), &mut buffer, self.head[6]);
+        let result = call(&mut buffer);
         format!("{} {}", told(&result, 0), hex(buffer))
     }
 

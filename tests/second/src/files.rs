@@ -1,4 +1,4 @@
-//! Reading and writing job files.
+//! Reading, writing and tidying job files.
 
 use crate::rules::{check_bounded_table, check_lent, refuse, Given, Job, Refusal};
 
@@ -121,4 +121,20 @@ pub fn write_file(given: &Given, buffer: &mut [u8], used: u64) -> Result<u64, Re
     check_bounded_table(given)?;
     buffer[used as usize..length as usize].copy_from_slice(&save_bytes(given));
     Ok(length)
+}
+
+/// Lets the bytes in use keep their last save alone, its notes too, with zeros where the rest stood, and gives its length.
+pub fn tidy(buffer: &mut [u8], used: u64) -> Result<u64, Refusal> {
+    if used > LONGEST_FILE {
+        return refuse(1, 0);
+    }
+    check_lent(buffer.len(), used)?;
+    let used = used as usize;
+    let mut file = buffer[..used].to_vec();
+    read_file(&file, &mut [Job::default(); 255])?;
+    let save = number(&file[used - 4..]) as usize + TRAILER;
+    file.drain(..used - save);
+    file.resize(used, 0);
+    buffer[..used].copy_from_slice(&file);
+    Ok(save as u64)
 }

@@ -3,7 +3,7 @@
 use crate::brute;
 use crate::calls;
 use crate::examples::{chain, go_twice, house, job, jobs_u, trolley, word, Dice, Example};
-use crate::files::{job_bytes, read_file, write_file, Saved};
+use crate::files::{job_bytes, read_file, tidy, write_file, Saved};
 use crate::plan::{least_bound, plan_within};
 use crate::readings::{opening_facts, tenths, Marks, Reading};
 use crate::rules::{
@@ -864,6 +864,7 @@ fn test_files(tally: &mut Tally) {
     }
     test_reader(tally);
     test_writer(tally);
+    test_tidying(tally);
 }
 
 /// Older bytes before, a save, bytes behind in the buffer; then notes between records and trailer.
@@ -887,6 +888,47 @@ fn check_round_trip(tally: &mut Tally, dice: &mut Dice) {
     noted.extend(((32 * example.jobs.len() + notes) as u32).to_le_bytes());
     tally.same("read with notes", read_file(&noted, &mut lent), Ok(saved_of(&example)));
     tally.check("jobs read with notes", lent[..example.jobs.len()] == example.jobs[..]);
+    check_tidying(tally, &noted, used, &buffer[length..]);
+}
+
+/// A save behind so many older bytes: tidied, each byte is where it must be, and tidied again it is the same.
+fn check_tidying(tally: &mut Tally, file: &[u8], older: usize, behind: &[u8]) {
+    let save = file.len() - older;
+    let mut buffer = [file, behind].concat();
+    tally.same("tidied length", tidy(&mut buffer, file.len() as u64), Ok(save as u64));
+    let right = |(place, &byte): (usize, &u8)| {
+        byte == if place < save { file[older + place] } else if place < file.len() { 0 } else { behind[place - file.len()] }
+    };
+    tally.check("every byte", buffer.len() == file.len() + behind.len() && buffer.iter().enumerate().all(right));
+    let read = |file: &[u8]| {
+        let mut lent = [Job::default(); 24];
+        (read_file(file, &mut lent), lent)
+    };
+    tally.check("read as before", read(&buffer[..save]) == read(file));
+    let once = buffer.clone();
+    tally.same("tidied again", tidy(&mut buffer, save as u64), Ok(save as u64));
+    tally.check("nothing changed", buffer == once);
+}
+
+fn test_tidying(tally: &mut Tally) {
+    let file = file_of(&jobs_u(&[2, 3], 12));
+    let tidied = |file: &[u8], used: u64| {
+        let mut buffer = file.to_vec();
+        let result = tidy(&mut buffer, used);
+        (result, buffer == file)
+    };
+    let long = [vec![1; 65_536 - file.len()], file.clone(), vec![7; 2]].concat();
+    tally.same("tidy, one save", tidied(&file, 152), (Ok(152), true));
+    tally.same("tidy, the longest file", tidied(&long, 65_536), (Ok(152), false));
+    tally.same("tidy 1", tidied(&long, 65_537), (refused(1, 0), true));
+    tally.same("tidy 1 before 3", tidied(&file, 65_537), (refused(1, 0), true));
+    tally.same("tidy 1, any use", tidied(&file, u64::MAX), (refused(1, 0), true));
+    tally.same("tidy 3", tidied(&file, 153), (refused(3, 0), true));
+    tally.same("tidy 3 before 2", tidied(&[], 1), (refused(3, 0), true));
+    tally.same("tidy 2", tidied(&file, 151), (refused(2, 0), true));
+    tally.same("tidy 2, nothing in use", tidied(&file, 0), (refused(2, 0), true));
+    tally.same("tidy 5", tidied(&file_of_many(255, 0), 255 * 32 + 24), (refused(5, 0), true));
+    tally.same("tidy, no jobs", tidied(&file_of_many(0, 0), 24), (Ok(24), true));
 }
 
 fn test_reader(tally: &mut Tally) {
@@ -936,7 +978,7 @@ fn test_reader(tally: &mut Tally) {
 fn file_of_many(count: u8, last: u8) -> Vec<u8> {
     let mut file: Vec<u8> =
         (0..count).flat_map(|_| [job_bytes(&job(&[], &[0], &[], 1)), vec![0; 4]].concat()).collect();
-    *file.last_mut().expect("there are records") = last;
+    file.last_mut().into_iter().for_each(|byte| *byte = last);
     file.extend([0; 16]);
     file.extend([9, 0, count, 1]);
     file.extend((32 * count as u32).to_le_bytes());
