@@ -1,7 +1,8 @@
-"""Job files from readable text, and back.
+"""Job files from readable text, and back; and files without their older saves.
 
     tools/jobfile make < TEXT > FILE
     tools/jobfile show < FILE > TEXT
+    tools/jobfile tidy FILE
 
 The text, a line a thing; what stands behind # is a comment, and blank lines mean nothing:
 
@@ -21,13 +22,21 @@ A name begins with a letter and goes on with letters, digits, '-', '_' and '.'. 
 The text may hold anything that a file can hold: where the planner will refuse it, a warning on standard error says
 so, and the file is made all the same. `show` names facts f0, f1 .. and jobs j0, j1 .. and shows the last save of a
 file; a release is shown where it is not 0, the rule where it is 2.
+
+`tidy` leaves of a file the last save alone, with its notes, and says how long it is and was. The new file is written
+beside the old one under another name and takes its place when it is whole, with the same mode and owner, so a failure
+leaves the old one as it was; nothing else may write to the file meanwhile. What the planner would refuse is not tidied,
+and a file that is tidy is not written.
+
 Status 1 with a line on standard error where the text or the file is wrong, 2 where it cannot be read or the result written.
 """
 import os
 import re
 import signal
+import stat
 import struct
 import sys
+import tempfile
 
 NAME = re.compile(r'[A-Za-z][A-Za-z0-9_.-]*')
 RECORD, TRAILER, FIELDS = 32, 24, '<QQQHH'
@@ -145,7 +154,7 @@ class Text:
 
 
 def refusal_of(file):
-    """The number and the place with which the planner refuses a file that was made, None where it plans; 10 is the planner's own."""
+    """The number and the place, 4 to 9 or 20, with which the planner refuses a file, None where it does not; 10 is the planner's own."""
     jobs, (opening, goals, bound, _, atoms), _ = take_apart(file)
     over = [number for number, job in enumerate(jobs) if (job[0] | job[1] | job[2]) >> atoms]
     over += [24] if (opening | goals) >> atoms else []
@@ -223,6 +232,15 @@ def take_apart(file):
     return jobs, (opening, goals, bound, rule, atoms), (first, distance - RECORD * count)
 
 
+def last_save(file):
+    """The last save of a file, its notes included."""
+    refusal = refusal_of(file)
+    if refusal:
+        raise Wrong(warning_of(*refusal))
+    *_, (before, _) = take_apart(file)
+    return file[before:]
+
+
 def fact_names(word):
     return ''.join(f' f{fact}' for fact in range(MOST_FACTS) if word >> fact & 1)
 
@@ -272,6 +290,41 @@ def give(result):
         raise Unable(f'standard output cannot be written: {error.strerror}') from None
 
 
+def contents(name):
+    """The bytes of a file, up to one more than may be."""
+    try:
+        if not stat.S_ISREG(os.stat(name).st_mode):
+            raise Unable(f'{name} is no file')
+        with open(name, 'rb') as file:
+            return file.read(LONGEST_FILE + 1)
+    except OSError as error:
+        raise Unable(f'{name} cannot be read: {error.strerror}') from None
+
+
+def fill_like(old, handle, data):
+    """The data on the disk in an open file that has the old one's owner and mode."""
+    was = os.stat(old)
+    with os.fdopen(handle, 'wb') as file:
+        os.fchown(handle, was.st_uid, was.st_gid)
+        os.fchmod(handle, stat.S_IMODE(was.st_mode))
+        file.write(data)
+        file.flush()
+        os.fsync(handle)
+
+
+def put_in_place(name, data):
+    """The data under a name that a file has already, which stands until the new one is whole; a link goes on leading to it."""
+    old, new = os.path.realpath(name), None
+    try:
+        handle, new = tempfile.mkstemp(prefix=f'.{os.path.basename(old)[:40]}-', dir=os.path.dirname(old))
+        fill_like(old, handle, data)
+        os.replace(new, old)
+    except OSError as error:
+        if new:
+            os.unlink(new)
+        raise Unable(f'{name} is as it was, a new file cannot be written: {error.strerror}') from None
+
+
 def say(line):
     # Where standard error is closed too there is nobody to tell.
     try:
@@ -295,11 +348,26 @@ def show():
     give(text_of(taken(LONGEST_FILE)).encode())
 
 
+def tidy(name):
+    file = contents(name)
+    save = last_save(file)
+    if len(save) < len(file):
+        put_in_place(name, save)
+    give(f'{len(save)} bytes, {len(file)} before\n'.encode())
+
+
+def action_of(words):
+    """What the words ask for; None where they ask for nothing there is."""
+    if len(words) == 2 and words[0] == 'tidy':
+        return lambda: tidy(words[1])
+    return {('make',): make, ('show',): show, ('--help',): lambda: give(__doc__.encode())}.get(tuple(words))
+
+
 def main(words):
     signal.signal(signal.SIGINT, signal.SIG_DFL)
-    action = {('make',): make, ('show',): show, ('--help',): lambda: give(__doc__.encode())}.get(tuple(words))
+    action = action_of(words)
     if action is None:
-        say('usage: jobfile make < TEXT > FILE, or jobfile show < FILE > TEXT; jobfile --help says more')
+        say('usage: jobfile make < TEXT > FILE, jobfile show < FILE > TEXT, or jobfile tidy FILE; jobfile --help says more')
         return 2
     try:
         action()

@@ -1,14 +1,20 @@
 #!/usr/bin/env python3
-"""tools/jobfile: known bytes, the round trip, each error with its line, each warning, and what cannot be read or written.
-Last line: 'N passed, M failed'."""
+"""tools/jobfile: known bytes, the round trip, each error with its line, each warning, files tidied, and what cannot be read or
+written. Last line: 'N passed, M failed'."""
 import os
 import random
 import re
 import struct
 import subprocess
 import sys
+import tempfile
 
+sys.dont_write_bytecode = True
 ROOT = os.path.join(os.path.dirname(os.path.abspath(__file__)), '../..')
+sys.path.insert(0, os.path.join(ROOT, 'tests/calls'))
+from held import answers_to
+from tidies import tidy_call
+
 TOOL = os.path.join(ROOT, 'tools/jobfile')
 U = '''# P3: unpack, drench, warm, wash
 facts packed unpacked drenched warm washed
@@ -113,6 +119,19 @@ WARNED = [
     ('facts a\nbound 2881', 9, 0),
 ]
 IN_ORDER = 'facts a\nbound 2880\n' + '\n'.join(f'job a{n} 960 release 2880: -> a' for n in range(24))
+# The jobs behind an older save, with notes; what is left of it; and saves without jobs.
+NOTED_SAVE = U_FILE[:-24] + b'notes' + U_FILE[-24:-4] + struct.pack('<I', 133)
+NOTED = U_FILE + NOTED_SAVE
+NO_JOBS = struct.pack('<QQHBBI', 1, 1, 0, 0, 1, 0)
+# A file, what is left of it when it is tidied, and what is said.
+TIDIED = [
+    (NOTED, NOTED_SAVE, b'157 bytes, 309 before\n'),
+    (U_FILE * 431, U_FILE, b'152 bytes, 65512 before\n'),
+    (bytes(65384) + U_FILE, U_FILE, b'152 bytes, 65536 before\n'),
+    (b'x' + RULED_FILE, RULED_FILE, b'152 bytes, 153 before\n'),
+    (U_FILE + NO_JOBS, NO_JOBS, b'24 bytes, 176 before\n'),
+    (NOTED_SAVE, NOTED_SAVE, b'157 bytes, 157 before\n'),
+]
 # What the shell does with the tool, and the words that must be said.
 UNABLE = [
     ('"$0" make </', 'is a folder'),
@@ -121,6 +140,11 @@ UNABLE = [
     ('"$0" make >&-', 'standard output cannot be written'),
     ('"$0" make >/dev/full', 'standard output cannot be written'),
     ('"$0" --help >/dev/full', 'standard output cannot be written'),
+    ('"$0" tidy /nowhere/file', '/nowhere/file cannot be read'),
+    ('"$0" tidy /', '/ is no file'),
+    ('"$0" tidy /dev/null', '/dev/null is no file'),
+    ('"$0" tidy', 'usage'),
+    ('"$0" tidy one two', 'usage'),
 ]
 
 
@@ -152,6 +176,78 @@ def broken_pipe():
     return done.returncode == 2 and done.stderr == b'jobfile: standard output cannot be written: Broken pipe\n'
 
 
+class Folder:
+    """A folder with one file in it, which the tool is to tidy."""
+
+    def __init__(self, room, file, mode=0o640):
+        self.name = os.path.join(tempfile.mkdtemp(dir=room), 'jobs.job')
+        with open(self.name, 'wb') as new:
+            new.write(file)
+        os.chmod(self.name, mode)
+        self.before = os.stat(self.name)
+
+    def tidy(self, name=None, before=''):
+        """What the tool says; a command of the shell may come before it."""
+        command = f'{before} exec "$0" tidy "$1"'
+        done = subprocess.run(['sh', '-c', command, TOOL, name or self.name], capture_output=True)
+        return done.returncode, done.stdout, done.stderr.decode()
+
+    def holds(self, file, names=('jobs.job',)):
+        """Whether the file is this one, with the mode it had, and nothing else stands beside it."""
+        with open(self.name, 'rb') as held:
+            same = held.read() == file
+        return same and os.stat(self.name).st_mode == self.before.st_mode and sorted(os.listdir(os.path.dirname(self.name))) == sorted(names)
+
+    def untouched(self):
+        now = os.stat(self.name)
+        return (now.st_ino, now.st_mtime_ns) == (self.before.st_ino, self.before.st_mtime_ns)
+
+
+def tidy_cases(room):
+    """Files tidied, and files that are not and stay as they are."""
+    for file, left, line in TIDIED:
+        folder = Folder(room, file)
+        yield f'tidied: {line}', folder.tidy() == (0, line, '') and folder.holds(left) and folder.untouched() == (file == left)
+        yield f'tidied again: {line}', folder.tidy()[::2] == (0, '') and folder.holds(left)
+    for file, words in [*BAD_FILES, (bytes(65385) + U_FILE, 'more than 65536')]:
+        folder = Folder(room, file)
+        status, out, said = folder.tidy()
+        yield f'not tidied: {words}', (status, out) == (1, b'') and words in said and folder.holds(file) and folder.untouched()
+    for text, number, _ in WARNED:
+        file = U_FILE + run('make', text.encode())[1]
+        folder = Folder(room, file)
+        status, out, said = folder.tidy()
+        yield f'not tidied: refusal {number}', (status, out) == (1, b'') and f'refusal {number}: ' in said and folder.untouched()
+
+
+def failing_cases(room):
+    """A link, a full disk, and a folder that is gone."""
+    folder = Folder(room, NOTED, 0o600)
+    link = os.path.join(os.path.dirname(folder.name), 'link')
+    os.symlink('jobs.job', link)
+    yield 'tidied by a link', folder.tidy(link)[0] == 0 and folder.holds(NOTED_SAVE, ('jobs.job', 'link')) and os.path.islink(link)
+    folder = Folder(room, NOTED)
+    status, out, said = folder.tidy(before='ulimit -f 0;')
+    yield 'no room for a new file', (status, out) == (2, b'') and 'is as it was' in said and folder.holds(NOTED) and folder.untouched()
+    folder = Folder(room, NOTED)
+    status, _, said = folder.tidy(before='exec >/dev/full;')
+    yield 'tidied and not told', status == 2 and 'standard output' in said and folder.holds(NOTED_SAVE)
+    name = os.path.join(os.path.dirname(folder.name), 'pipe')
+    os.mkfifo(name)
+    yield 'a pipe', folder.tidy(name) == (2, b'', f'jobfile: {name} is no file\n')
+
+
+def library_cases(room, dice):
+    """The tool leaves what the library leaves of the same bytes, or both refuse."""
+    files = [dice.randbytes(dice.choice((0, 1, 300))) + random_file(dice) for _ in range(40)]
+    files += [NOTED, U_FILE, U_FILE[:-1], NOTED + LATE_FILE]
+    for number, (file, line) in enumerate(zip(files, answers_to([tidy_call(file) for file in files]))):
+        refusal, _, _, length, left = line.split(' ')
+        folder = Folder(room, file)
+        told = folder.tidy()[0] == (1 if refusal != '0' else 0)
+        yield f'as the library {number}', told and folder.holds(file if refusal != '0' else bytes.fromhex(left)[:int(length)])
+
+
 def random_file(dice):
     """One save of any numbers at all, those that the planner refuses too."""
     count = dice.choice((0, 1, 3, 24, 25, 255))
@@ -177,9 +273,8 @@ def cases():
     for number in range(20):
         file = random_file(dice)
         yield f'round trip {number}', run('make', run('show', file)[1])[:2] == (0, file)
-    noted = U_FILE + U_FILE[:-24] + b'notes' + U_FILE[-24:-4] + struct.pack('<I', 133)
     passed_over = '# passed over: 152 bytes before the records, 5 behind them\n'
-    yield 'older save and notes', run('show', noted) == (0, (passed_over + SHOWN).encode(), '')
+    yield 'older save and notes', run('show', NOTED) == (0, (passed_over + SHOWN).encode(), '')
     for text, line, words in ERRORS:
         status, out, said = run('make', text.encode())
         yield f'error {words!r}', (status, out) == (1, b'') and said.startswith(f'jobfile: line {line}: ') and words in said and len(said) < 200
@@ -187,7 +282,7 @@ def cases():
         status, out, said = run('show', file)
         yield f'bad file {words!r}', (status, out) == (1, b'') and words in said
     yield 'usage', run('take', b'')[0] == 2
-    yield 'help', run('--help', b'')[::2] == (0, '') and all(word in run('--help', b'')[1] for word in (b'release 6', b'rule 2'))
+    yield 'help', run('--help', b'')[::2] == (0, '') and all(word in run('--help', b'')[1] for word in (b'release 6', b'rule 2', b'tidy FILE'))
     yield 'byte order mark', run('make', b'\xef\xbb\xbf' + U.encode()) == (0, U_FILE, '')
     yield 'zeros before a number', run('make', U.replace('bound 12', 'bound ' + '0' * 9999 + '12').encode()) == (0, U_FILE, '')
     table = refusal_words()
@@ -205,6 +300,10 @@ def cases():
     for command, words in UNABLE:
         yield f'unable: {command}', unable(command, words)
     yield 'a broken pipe', broken_pipe()
+    with tempfile.TemporaryDirectory() as room:
+        yield from tidy_cases(room)
+        yield from failing_cases(room)
+        yield from library_cases(room, dice)
 
 
 def main():
