@@ -8,7 +8,7 @@ use Prim.Native.Nat.{ℕ, zero, suc, _+_, _-_, _*_, _≤_, _<_, min}
 use native.Mathlib.Nat.{add-zero}
 use native.Mathlib.Omega.{arith}
 use lib.Dec.{T, eqb, ltb, ltb→lt}
-use lib.ListN.{length, take, replicate}
+use lib.ListN.{length, take, drop, replicate, length-drop}
 use lib.Seq.{length-take-le}
 use Rattle.facts.specs.Least.{any}
 use Rattle.facts.proofs.Bools.{or-cases, below-suc, at-most}
@@ -26,7 +26,7 @@ use Rattle.tables.proofs.Laws.{unmarked-sum, gap-one}
 use Rattle.tables.proofs.Calls.{call-passed, cleared}
 use Rattle.tables.proofs.Lent.{filled-at, filled-same}
 use Rattle.bytes_le.specs.Little.{number, laid}
-use Rattle.bytes_le.proofs.Stands.{Stands, stands-left, stands-right, stands-drop, stands-take, stands-laid}
+use Rattle.bytes_le.proofs.Stands.{Stands, stands-left, stands-right, stands-drop, stands-take, stands-laid, stands-all}
 use Rattle.bytes_le.proofs.Laid.{length-laid}
 use Rattle.bytes_le.proofs.Fields.{Found, fields-found}
 use Rattle.jobfile.specs.Format.{recordFields, recordOf, recordsOf, trailerFields, trailerOf, saveOf, lengthAfter, trailerAt, trailerIn, askIn, distanceIn, tooFar, recordsIn, spoilt, actionIn, firstOf, tableIn}
@@ -168,30 +168,55 @@ module _ (l : Loaded) (q : Ask) (base size : ℕ) (a : Accepted l q base size) (
     reading-is : reading file room ≡ whole (answerOf accepted 0 0) (saved q) (kept l (q .jobs) room)
     reading-is = ap (λ (v : Verdict). handedFrom v file room) reads ∙ ap₂ (whole (answerOf accepted 0 0)) (trailer-is .0) table-same
 
--- the first bytes, up to the new length, of what was written
-pub read-back : (l : Loaded) (q : Ask) (used room : ℕ) (buf : List ℕ) → writeChecks l q used (length buf) ≡ accepted → q .jobs ≤ room
-    → reading (take (lengthAfter used (q .jobs)) (laid (saveOf l q) used buf)) room ≡ whole (answerOf accepted 0 0) (saved q) (kept l (q .jobs) room)
-read-back l q used room buf h lent =
-    reading-is l q used (length buf) a (take n (laid (saveOf l q) used buf)) (length-take-le n _ (omega (arith, length-laid (saveOf l q) used buf (omega (arith, long, a .room)), a .room)))
-    (stands-take (saveOf l q) n used _ (omega (arith, long)) (stands-laid (saveOf l q) used buf (omega (arith, a .room)))) room lent
-  where
-    n : ℕ
-    n = lengthAfter used (q .jobs)
+-- a buffer that a save was laid into
+module _ (l : Loaded) (q : Ask) (used : ℕ) (buf : List ℕ) (h : writeChecks l q used (length buf) ≡ accepted) where
+  allowed : Accepted l q used (length buf)
+  allowed = accepted-write l q used (length buf) h
 
-    a : Accepted l q used (length buf)
-    a = accepted-write l q used (length buf) h
+  laid-long : length (laid (saveOf l q) used buf) ≡ length buf
+  laid-long = length-laid (saveOf l q) used buf (omega (arith, length-save l q, allowed .room))
 
-    long : length (saveOf l q) ≡ 32 * q .jobs + 24
-    long = length-save l q
+  -- the first bytes, up to the new length
+  abbrev pub written : List ℕ
+  written = take (lengthAfter used (q .jobs)) (laid (saveOf l q) used buf)
 
--- by what the writer promises: where it accepts, the value returned is the length to read
-pub written-back : (l : Loaded) (q : Ask) (used room : ℕ) (old new : List ℕ) (r : Answer) → Writes l q used old new r → r .number ≡ 0 → q .jobs ≤ room
-    → reading (take (r .value) new) room ≡ whole (answerOf accepted 0 0) (saved q) (kept l (q .jobs) room)
-written-back l q used room old new r h z lent =
-    ap₂ (λ (n : ℕ) (xs : List ℕ). reading (take n xs) room)
-    (ap (λ (x : Answer). x .value) (h .says) ∙ ap (λ (v : Verdict). answerOf v (lengthAfter used (q .jobs)) 0 .value) yes)
-    (h .bytes ∙ ap (λ (v : Verdict). changed v (laid (saveOf l q) used old) old) yes)
-    ∙ read-back l q used room old yes lent
-  where
-    yes : writeChecks l q used (length old) ≡ accepted
-    yes = write-accepts l q used (length old) (ap (λ (x : Answer). x .number) (sym (h .says)) ∙ z)
+  written-long : length written ≡ lengthAfter used (q .jobs)
+  written-long = length-take-le (lengthAfter used (q .jobs)) (laid (saveOf l q) used buf) (omega (arith, laid-long, allowed .room))
+
+  stands : Stands (saveOf l q) used written
+  stands = stands-take (saveOf l q) (lengthAfter used (q .jobs)) used _ (omega (arith, length-save l q)) (stands-laid (saveOf l q) used buf (omega (arith, allowed .room)))
+
+  pub read-back : (room : ℕ) → q .jobs ≤ room → reading written room ≡ whole (answerOf accepted 0 0) (saved q) (kept l (q .jobs) room)
+  read-back room lent = reading-is l q used (length buf) allowed written written-long stands room lent
+
+  -- they end in the save, at the distance of its records, and are read with 255 records
+  pub written-reads : readChecks written 255 ≡ accepted
+  written-reads = reads l q used (length buf) allowed written written-long stands 255 (omega (arith, allowed .passed .count))
+
+  pub written-distance : distanceIn (trailerIn written) ≡ 32 * q .jobs
+  written-distance = trailer-is l q used (length buf) allowed written written-long stands .1
+
+  pub written-save : drop used written ≡ saveOf l q
+  written-save =
+      let e : used ≡ used + 0 = omega arith in
+      stands-all (saveOf l q) (drop used written) (omega (arith, length-drop used written, written-long, length-save l q))
+      (stands-drop (saveOf l q) used 0 written (subst (λ (n : ℕ). Stands (saveOf l q) n written) e stands))
+
+  pub written-fits : (length written ≡ lengthAfter used (q .jobs)) × (lengthAfter used (q .jobs) ≤ 65536) × (lengthAfter used (q .jobs) ≤ length (laid (saveOf l q) used buf))
+  written-fits = (written-long, allowed .short, omega (arith, laid-long, allowed .room))
+
+-- ── by what the writer promises ──
+
+module _ (l : Loaded) (q : Ask) (used : ℕ) (old new : List ℕ) (r : Answer) (x : Writes l q used old new r) (z : r .number ≡ 0) where
+  pub wrote : writeChecks l q used (length old) ≡ accepted
+  wrote = write-accepts l q used (length old) (ap (λ (a : Answer). a .number) (sym (x .says)) ∙ z)
+
+  -- where it accepts, the value returned is the length to read
+  pub value-read : r .value ≡ lengthAfter used (q .jobs)
+  value-read = ap (λ (a : Answer). a .value) (x .says) ∙ ap (λ (v : Verdict). answerOf v (lengthAfter used (q .jobs)) 0 .value) wrote
+
+  pub bytes-laid : new ≡ laid (saveOf l q) used old
+  bytes-laid = x .bytes ∙ ap (λ (v : Verdict). changed v (laid (saveOf l q) used old) old) wrote
+
+  pub written-back : (room : ℕ) → q .jobs ≤ room → reading (take (r .value) new) room ≡ whole (answerOf accepted 0 0) (saved q) (kept l (q .jobs) room)
+  written-back room lent = ap₂ (λ (n : ℕ) (xs : List ℕ). reading (take n xs) room) value-read bytes-laid ∙ read-back l q used old wrote room lent

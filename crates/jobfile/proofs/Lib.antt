@@ -4,4 +4,6 @@ pub mod Same
 pub mod Back
 pub mod Form
 pub mod Tidy
+pub mod Room
+pub mod Last
 pub mod Old

@@ -181,7 +181,7 @@ module _ (used : ℕ) (old new : List ℕ) (r : Answer) (x : Tidies used old new
     within = omega (arith, value-is, no-longer)
 
     -- the first bytes, up to the value, are the last save
-    front-is : take (r .value) new ≡ lastSave file in-form
+    pub front-is : take (r .value) new ≡ drop (length file - saveLength file) file
     front-is =
         ap₂ (λ (n : ℕ) (ys : List ℕ). take n ys) value-is new-is
         ∙ pulled-front (saveLength file) used old within (checked .room)

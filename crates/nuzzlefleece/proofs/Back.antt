@@ -49,7 +49,7 @@ restored ts q used buf buf′ r w z old new a lent x = record {
     table = kept (loaded ts) (q .jobs) (length old)
 
     back : reading file (length old) ≡ readWhole (answerOf accepted 0 0) (saved q) table
-    back = written-back (loaded ts) q used (length old) buf buf′ r w z lent
+    back = written-back (loaded ts) q used buf buf′ r w z (length old) lent
 
     few : q .jobs ≤ 24
     few = let h : reading file (length old) .ask .jobs ≡ q .jobs = ap (λ (y : Read). y .ask .jobs) back in omega (arith, h, reading-fits file (length old) .0)

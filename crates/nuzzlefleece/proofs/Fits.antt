@@ -1,16 +1,15 @@
 -- What was read fits the lent records: at most 24 jobs, and a record for each; on refusal no record is changed.
 -- Assumes nothing.
 use mathlib.Core.Path.{_≡_, refl, ap, _∙_}
-use mathlib.Core.Logic.{_≢_}
 use mathlib.Core.Bool.{Bool, true, false, cond}
 use mathlib.Core.List.{List}
 use Prim.Native.Nat.{ℕ, _≤_}
 use native.Mathlib.Omega.{arith}
-use lib.Dec.{T, eqb}
+use lib.Dec.{eqb}
 use lib.ListN.{length}
 use borrow.Author.Tests.{eqb-true}
 use Rattle.facts.proofs.Bools.{at-most}
-use Rattle.refusals.specs.Refusals.{Verdict, refuseIf}
+use Rattle.refusals.proofs.Refused.{if-other}
 use Rattle.tables.specs.declared.Loaded.{Loaded}
 use Rattle.tables.specs.declared.Ask.{Ask}
 use Rattle.tables.specs.declared.Answer.{Answer}
@@ -24,12 +23,6 @@ use Rattle.tables.specs.declared.Action.{Action}
 use Rattle.nuzzlefleece.specs.declared.ReadAnswer.{ReadAnswer}
 use Rattle.nuzzlefleece.specs.Files.{Reads}
 
--- a check that says 0 does not refuse, and what comes behind it says 0
-passes : (b : Bool) (n k : ℕ) (v : Verdict) → n ≢ 0 → refuseIf b n k v .number ≡ 0 → (T b → ⊥) × (v .number ≡ 0)
-unfolding refuseIf
-passes true n k v ne h = absurd (ne h)
-passes false n k v ne h = (λ x. x, h)
-
 abbrev Fit : ℕ → ℕ → Type 0
 Fit jobs room = (jobs ≤ 24) × (jobs ≤ room)
 
@@ -39,8 +32,8 @@ unfolding readChecks saveChecks
 accepted-fits file room z =
     let q = askIn (trailerIn file) in
     let l = tableIn (recordsIn file) (q .jobs) room in
-    let h = passes _ 2 0 _ (λ e. omega arith) (passes _ 2 0 _ (λ e. omega arith) (passes _ 2 0 _ (λ e. omega arith) (passes _ 1 0 _ (λ e. omega arith) z .1) .1) .1) .1 in
-    (cleared false (q .bound) l q (accepts (call-checks false (q .bound) l q) h) .few, at-most room (q .jobs) (passes _ 3 0 _ (λ e. omega arith) h .0))
+    let h = if-other _ 2 0 _ (λ e. omega arith) (if-other _ 2 0 _ (λ e. omega arith) (if-other _ 2 0 _ (λ e. omega arith) (if-other _ 1 0 _ (λ e. omega arith) z .1) .1) .1) .1 in
+    (cleared false (q .bound) l q (accepts (call-checks false (q .bound) l q) h) .few, at-most room (q .jobs) (if-other _ 3 0 _ (λ e. omega arith) h .0))
 
 -- on refusal there are no jobs
 either-fits : (b : Bool) (a : Answer) (q : Ask) (l : Loaded) (room : ℕ) → (b ≡ true → Fit (q .jobs) room) → Fit (cond b (whole a q l) (nothing a) .ask .jobs) room

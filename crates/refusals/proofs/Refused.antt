@@ -65,6 +65,20 @@ pub at-zero : (f : ℕ → Bool) (m n : ℕ) (v : Verdict) → n ≢ 0 → refus
 unfolding refuseAt
 at-zero f m n v ne h = for-zero f (λ k. 0) m n v ne h
 
+-- a number that is not a check's own is said by the rest, and the check did not refuse
+pub if-other : (b : Bool) (n k : ℕ) (v : Verdict) {m : ℕ} → n ≢ m → refuseIf b n k v .number ≡ m → (T b → ⊥) × (v .number ≡ m)
+unfolding refuseIf
+if-other true n k v ne h = absurd (ne h)
+if-other false n k v ne h = (λ x. x, h)
+
+pub at-other : (f : ℕ → Bool) (l n : ℕ) (v : Verdict) {m : ℕ} → n ≢ m → refuseAt f l n v .number ≡ m → v .number ≡ m
+unfolding refuseAt refuseFor
+at-other f l n v {m} ne h = go (any f l) h
+  where
+    go : (b : Bool) → cond b (refusedFor n 0 (least f l)) v .number ≡ m → v .number ≡ m
+    go true e = absurd (ne e)
+    go false e = e
+
 -- ── one list behind another ──
 
 -- of all refusals only 12 has a second number
