@@ -56,7 +56,7 @@ enum {
     NUZZLEFLEECE_CLASH_ADDITION = 2     /* no condition, but one deletes an addition of the other */
 };
 
-/* Refusals, checked in the order of their numbers, but 20 between 6 and 7, and 21 between 11 and 12.
+/* Refusals, checked in the order of their numbers, but 20 between 6 and 7, 21 between 11 and 12, and in tidying 3 between 1 and 2.
  * All that take or write a job table check 3 to 8 and 20, and 9 where there is a bound.
  * The place, and the second number, is 0 where the comment names none. A job is named by its number in the table, a fact by its own, a
  * pair by its number in the list asked. */
