@@ -25,8 +25,8 @@ file; a release is shown where it is not 0, the rule where it is 2.
 
 `tidy` leaves of a file the last save alone, with its notes, and says how long it is and was. The new file is written
 beside the old one under another name and takes its place when it is whole, with the same mode and owner, so a failure
-leaves the old one as it was; nothing else may write to the file meanwhile. What the planner would refuse is not tidied,
-and a file that is tidy is not written.
+leaves the old one as it was, and an interruption at most a file beside it whose name begins with a dot; nothing else may
+write to the file meanwhile. What the planner would refuse is not tidied, and a file that is tidy is not written.
 
 Status 1 with a line on standard error where the text or the file is wrong, 2 where it cannot be read or the result written.
 """
