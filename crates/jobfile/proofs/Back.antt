@@ -205,6 +205,9 @@ module _ (l : Loaded) (q : Ask) (used : ℕ) (buf : List ℕ) (h : writeChecks l
   pub written-fits : (length written ≡ lengthAfter used (q .jobs)) × (lengthAfter used (q .jobs) ≤ 65536) × (lengthAfter used (q .jobs) ≤ length (laid (saveOf l q) used buf))
   written-fits = (written-long, allowed .short, omega (arith, laid-long, allowed .room))
 
+  pub written-few : q .jobs ≤ 24
+  written-few = allowed .passed .count
+
 -- ── by what the writer promises ──
 
 module _ (l : Loaded) (q : Ask) (used : ℕ) (old new : List ℕ) (r : Answer) (x : Writes l q used old new r) (z : r .number ≡ 0) where

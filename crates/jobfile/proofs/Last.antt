@@ -2,7 +2,7 @@
 -- Assumes nothing.
 use mathlib.Core.Path.{_≡_, sym, ap, ap₂, _∙_}
 use mathlib.Core.List.{List}
-use Prim.Native.Nat.{ℕ, _+_, _-_, _*_}
+use Prim.Native.Nat.{ℕ, _+_, _-_, _*_, _≤_}
 use native.Mathlib.Omega.{arith}
 use lib.ListN.{length, take, drop}
 use Rattle.refusals.specs.Refusals.{Verdict, accepted}
@@ -10,10 +10,10 @@ use Rattle.tables.specs.declared.Loaded.{Loaded}
 use Rattle.tables.specs.declared.Ask.{Ask}
 use Rattle.tables.specs.declared.Answer.{Answer}
 use Rattle.tables.specs.Tables.{answerOf}
-use Rattle.jobfile.specs.Format.{saveOf, trailerIn, distanceIn, saveLength}
+use Rattle.jobfile.specs.Format.{saveOf, lengthAfter, trailerIn, distanceIn, saveLength}
 use Rattle.jobfile.specs.Calls.{readChecks, Writes}
 use Rattle.jobfile.specs.Tidy.{tidyChecks, Tidies}
-use Rattle.jobfile.proofs.Back.{written, written-reads, written-distance, written-save, written-fits, wrote, value-read, bytes-laid}
+use Rattle.jobfile.proofs.Back.{written, written-reads, written-distance, written-save, written-fits, written-few, wrote, value-read, bytes-laid}
 use Rattle.jobfile.proofs.Tidy.{tidy-reads, front-is}
 
 module _ (l : Loaded) (q : Ask) (used : ℕ) (old mid : List ℕ) (r : Answer) (x : Writes l q used old mid r) (z : r .number ≡ 0) where
@@ -48,3 +48,7 @@ module _ (l : Loaded) (q : Ask) (used : ℕ) (old mid : List ℕ) (r : Answer) (
         ∙ front-is (r .value) mid new s y (ap (λ (a : Answer). a .number) tidied-says)
         ∙ ap₂ (λ (n : ℕ) (xs : List ℕ). drop n xs) e file-is
         ∙ written-save l q used old (wrote l q used old mid r x z)
+
+    -- behind it and up to 80 saves of 792 bytes, which is the longest that the writer makes, there is room for one more
+    pub room-again : (jobs saves : ℕ) → jobs ≤ 24 → saves ≤ 80 → lengthAfter (s .value + saves * 792) jobs ≤ 65536
+    room-again jobs saves few most = omega (arith, ap (λ (a : Answer). a .value) tidied-says, written-few l q used old (wrote l q used old mid r x z))
