@@ -22,9 +22,9 @@
 extern "C" {
 #endif
 
-/* The version that this header describes, 10,000 times the first number, 100 times the second, and the third: 1.5.0.
+/* The version that this header describes, 10,000 times the first number, 100 times the second, and the third: 1.6.0.
  * nuzzlefleece_version() returns that of the library linked; where the two differ, header and library are not of one build. */
-#define NUZZLEFLEECE_VERSION 10500
+#define NUZZLEFLEECE_VERSION 10600
 
 /* Sizes and limits. A fact is a number below the atom count; a word of facts has fact 0 in its lowest bit. */
 enum {
@@ -46,7 +46,14 @@ enum {
     NUZZLEFLEECE_NO_CONDITION = 255,
     NUZZLEFLEECE_PAIRS_BYTES = 552,     /* lent for binding pairs: at most 276, two bytes each */
     NUZZLEFLEECE_PAGE_BYTES = 8192,     /* lent for the text of a page */
-    NUZZLEFLEECE_NO_FACT = 64           /* the fact of two jobs that do not clash */
+    NUZZLEFLEECE_NO_FACT = 64,          /* the fact of two jobs that do not clash */
+    NUZZLEFLEECE_NO_LOG = 65535         /* the place of refusal 19 for words that no allowed events give */
+};
+
+/* An event of a job; no other number is one. */
+enum {
+    NUZZLEFLEECE_STARTED = 0,
+    NUZZLEFLEECE_FINISHED = 1
 };
 
 /* Why two jobs clash. */
@@ -81,6 +88,8 @@ enum {
     NUZZLEFLEECE_NO_STARTS = 16,         /* settling: no starts keep the pairs and the releases within the bound */
     NUZZLEFLEECE_READING_WRONG = 17,     /* not finite or not -100 to 100; place: channel, lower first */
     NUZZLEFLEECE_MARK_WRONG = 18,        /* place: 16 for more than 16 marks, else the lowest mark out of range */
+    NUZZLEFLEECE_NOT_ALLOWED = 19,       /* following; place: NUZZLEFLEECE_NO_LOG for words that no allowed events give, else the job of an event that
+                                          * is not allowed after events that give them */
     NUZZLEFLEECE_RELEASE_WRONG = 20,     /* over 2,880; checked after 6 and before 7; place: lowest job */
     NUZZLEFLEECE_BEFORE_RELEASE = 21     /* offered plan: a job starts before its release; checked after 11 and before 12; place: lowest job */
 };
@@ -107,11 +116,11 @@ static inline const char *nuzzlefleece_words(unsigned number) {
         "settling: no such starts",
         "reading not finite or out of range",
         "more than 16 marks, or a mark out of range",
-        NULL, /* no refusal has the number 19 */
+        "following: words that no allowed events give, or an event that is not allowed",
         "a release over 2,880",
         "offered plan: a job starts before its release",
     };
-    return number < sizeof words / sizeof words[0] && words[number] != NULL ? words[number] : "no such refusal";
+    return number < sizeof words / sizeof words[0] ? words[number] : "no such refusal";
 }
 
 /* A job: three words of facts, the quarter hours it takes and its release. The bytes behind are reserved, to be zero: a later version
@@ -150,6 +159,24 @@ typedef struct nuzzlefleece_clash {
     uint8_t fact; /* the lowest of that kind; NUZZLEFLEECE_NO_FACT for none */
 } nuzzlefleece_clash;
 
+/* What the foreman's screen is handed: the jobs that have started and those that have finished, one bit each, and an event of a job. */
+typedef struct nuzzlefleece_watch {
+    nuzzlefleece_ask ask;
+    uint64_t started;
+    uint64_t finished;
+    uint8_t event; /* NUZZLEFLEECE_STARTED or NUZZLEFLEECE_FINISHED */
+    uint8_t job;
+} nuzzlefleece_watch;
+
+/* What the screen shows after the event; on refusal the two words as they were handed in, and no facts and no jobs. */
+typedef struct nuzzlefleece_screen {
+    nuzzlefleece_answer answer;
+    uint64_t started;
+    uint64_t finished;
+    uint64_t facts;     /* the facts now */
+    uint64_t may_start; /* the jobs that may start, one bit each */
+} nuzzlefleece_screen;
+
 /* What a save is made of beside the records. */
 typedef struct nuzzlefleece_save {
     nuzzlefleece_ask ask;
@@ -180,6 +207,7 @@ typedef struct nuzzlefleece_opening {
 typedef char nuzzlefleece_layouts[sizeof(nuzzlefleece_action) == 32 && offsetof(nuzzlefleece_action, release) == 26
     && sizeof(nuzzlefleece_ask) == 56 && sizeof(nuzzlefleece_answer) == 8 && offsetof(nuzzlefleece_answer, second) == 1
     && offsetof(nuzzlefleece_answer, place) == 2 && sizeof(nuzzlefleece_clash) == 2 && sizeof(nuzzlefleece_save) == 64
+    && sizeof(nuzzlefleece_watch) == 80 && offsetof(nuzzlefleece_watch, job) == 73 && sizeof(nuzzlefleece_screen) == 40
     && sizeof(nuzzlefleece_read_answer) == 64 && sizeof(nuzzlefleece_opening) == 16 && offsetof(nuzzlefleece_opening, second) == 1
     && offsetof(nuzzlefleece_opening, place) == 2 ? 1 : -1];
 
@@ -237,6 +265,18 @@ nuzzlefleece_answer nuzzlefleece_supports(const nuzzlefleece_action *records, si
  */
 nuzzlefleece_answer nuzzlefleece_binding_pairs(const nuzzlefleece_action *records, size_t lent, nuzzlefleece_ask ask,
     const uint16_t *starts, size_t starts_lent, uint8_t *pairs, size_t pairs_lent);
+
+/*
+ * Follows the house as it works: one event of a job of the offered plan, after events that gave the words handed in. Before any event both
+ * words are 0; after each call the screen's two words are handed to the next. A job of the plan may start once, when the first job of every
+ * binding pair with it as second has finished, and may finish once, after it has started; facts change at finishes alone, which delete, then
+ * add. The screen has the words with the event, the facts then, and the jobs that may start then. They are the same whatever the order of
+ * the events was; a job that may start finds its conditions, and while a job of the plan has not finished some event is allowed. Releases,
+ * starts and the rule play no part in that, beyond the pairs. Refusals 3 to 9 and 20, then 11 to 14 and 21 as in nuzzlefleece_check_plan,
+ * then 19, for words that no allowed events give before an event that is not allowed after events that give them.
+ */
+nuzzlefleece_screen nuzzlefleece_follow(const nuzzlefleece_action *records, size_t lent, nuzzlefleece_watch watch,
+    const uint16_t *starts, size_t starts_lent);
 
 /*
  * Fills one earliest estimate a job, the greater of its release and what its conditions cost, NUZZLEFLEECE_OUT where it is never

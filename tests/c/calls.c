@@ -169,6 +169,15 @@ static void answer_tidying(void) {
     print_with(answer, table, head[9]);
 }
 
+/* Call 13: the answer, then the screen. */
+static void answer_following(void) {
+    nuzzlefleece_watch watch = {.ask = ask(), .started = head[6], .finished = head[7], .event = (uint8_t)head[12], .job = (uint8_t)head[13]};
+    nuzzlefleece_screen screen = nuzzlefleece_follow(records, head[8], watch, halves(table, head[9] / 2), head[9] / 2);
+    print_answer(screen.answer);
+    printf(" %lu %lu %lu %lu", (unsigned long)screen.started, (unsigned long)screen.finished, (unsigned long)screen.facts,
+        (unsigned long)screen.may_start);
+}
+
 static void answer_readings(void) {
     static int16_t levels[MOST_OUT];
     nuzzlefleece_reading reading;
@@ -216,6 +225,9 @@ static void answer_call(void) {
         break;
     case 12:
         answer_tidying();
+        break;
+    case 13:
+        answer_following();
         break;
     default:
         printf("unknown");

@@ -5,8 +5,9 @@ from typing import NamedTuple
 KINDS = {
     1: 'check plan', 2: 'plan within bound', 3: 'least bound', 4: 'supports', 5: 'binding pairs',
     6: 'estimates', 7: 'settle', 8: 'read file', 9: 'write file', 10: 'opening facts', 11: 'why jobs clash',
-    12: 'tidy file',
+    12: 'tidy file', 13: 'follow',
 }
+EVENTS = {0: 'start', 1: 'finish'}
 WORDS = 16
 RECORD = struct.Struct('<QQQHH4s')
 # A file ends with a trailer of so many bytes, the atom count at this one of them; rule 2 adds so much to it.
@@ -45,7 +46,7 @@ class Call:
         lengths = head[9:12] if kind == 10 else []
         fits = (len(self.records) <= MOST_RECORDS and len(self.table) <= most and head[2] <= 255
                 and head[5] <= 65535 and max(lengths, default=0) <= MOST_MARKS
-                and (kind == 10 or head[10] <= MOST_OUT))
+                and (kind == 10 or head[10] <= MOST_OUT) and (kind != 13 or max(head[12:14]) <= 255))
         if not fits or head[8] != len(self.records) or table_bytes(head) != len(self.table):
             raise ValueError(f'a call that does not fit: {head}')
 
@@ -143,12 +144,23 @@ def bytes_text(name, data):
     return f'{name}: {len(data)} bytes' + (', the last 400: ' if len(data) > 400 else ': ') + shown
 
 
+def starts_text(table):
+    starts = ['out' if start == 65535 else str(start) for start in halves(table)]
+    return f'{len(starts)} starts: ' + ' '.join(starts[:40])
+
+
+def event_text(call):
+    """The words of jobs and the event."""
+    started, finished, event, job = (call.head[word] for word in (6, 7, 12, 13))
+    return [f'started {facts_text(started)}, finished {facts_text(finished)}',
+            f'event {event} ({EVENTS.get(event, "none")}) of job {job}']
+
+
 def given_text(call):
     """What stands behind the table, by kind."""
     kind, head, table = call.head[0], call.head, call.table
-    if kind in (1, 4, 5):
-        starts = ['out' if start == 65535 else str(start) for start in halves(table)]
-        return [f'{len(starts)} starts: ' + ' '.join(starts[:40])]
+    if kind in (1, 4, 5, 13):
+        return [starts_text(table)] + (event_text(call) if kind == 13 else [])
     if kind == 7:
         pairs = [f'{table[at]}-{table[at + 1]}' for at in range(0, len(table) - 1, 2)]
         return [f'set {facts_text(head[6])}, pair count {head[7]}, {len(table)} bytes of pairs: '

@@ -4,18 +4,19 @@ from collections import namedtuple
 from dataclasses import replace
 
 from call import TRAILER, Call, Job, marked
-from tables import (LAST_BOUND, LAST_RELEASE, LONGEST, MOST_JOBS, NAMED, OUT, chain, drawn_table, house, landing,
-                    last_end, on_time, planned, random_table, some_landing, tower, trolley, word)
+from tables import (LAST_BOUND, LAST_RELEASE, LONGEST, MOST_JOBS, NAMED, OUT, chain, drawn_table, house, jobs_in,
+                    landing, large_table, last_end, on_time, planned, random_table, some_facts, some_landing, tower, trolley,
+                    word)
 
 PAIR_TABLE = 552
 RECORD = 32
-OFFERED, TABLED = (1, 4, 5), (1, 2, 3, 4, 5, 6, 7, 8, 9)
+OFFERED, TABLED, FOLLOW = (1, 4, 5), (1, 2, 3, 4, 5, 6, 7, 8, 9), 13
 MOST = 2 ** 64 - 1
 
 
 def room_needed(kind, count):
     """Elements of the lent output table."""
-    return {4: 64 * (count + 1), 5: PAIR_TABLE, 1: 0, 8: 0, 9: 0}.get(kind, count)
+    return {4: 64 * (count + 1), 5: PAIR_TABLE, 1: 0, 8: 0, 9: 0, FOLLOW: 0}.get(kind, count)
 
 
 def save_bytes(jobs, count, atoms, opening, goals, bound, distance, notes=b''):
@@ -37,7 +38,8 @@ class Draft:
         self.before, self.notes, self.behind = b'', b'', b''
         self.used, self.buffer = 0, bytes(RECORD * self.count + TRAILER)
         self.lent = [Job(0x1111, 0x2222, 0x4444, 77)] * self.count
-        self.room, self.fill = room_needed(kind, self.count), 0xab
+        self.room, self.fill = room_needed(kind, self.count), 0 if kind == FOLLOW else 0xab
+        self.started = self.finished = self.event = self.job = 0
 
     def file(self):
         distance = RECORD * self.count + len(self.notes)
@@ -45,7 +47,7 @@ class Draft:
         return self.before + save_bytes(self.jobs, *numbers, self.notes)
 
     def given(self):
-        if self.kind in OFFERED:
+        if self.kind in (*OFFERED, FOLLOW):
             return struct.pack(f'<{len(self.starts)}H', *self.starts)
         if self.kind == 7:
             return b''.join(bytes(pair) for pair in self.pairs) + self.behind
@@ -55,10 +57,10 @@ class Draft:
         given = self.given()
         if self.kind == 8:
             return Call([8] + [0] * 7 + [len(self.lent), len(given)], self.lent, given)
-        six = {7: self.set, 9: self.used}.get(self.kind, 0)
-        seven = self.pair_count if self.kind == 7 else 0
+        six = {7: self.set, 9: self.used, FOLLOW: self.started}.get(self.kind, 0)
+        seven = {7: self.pair_count, FOLLOW: self.finished}.get(self.kind, 0)
         head = [self.kind, self.count, marked(self.atoms, self.gap), self.opening, self.goals, self.bound, six, seven,
-                len(self.jobs), len(given), self.room, self.fill]
+                len(self.jobs), len(given), self.room, self.fill, self.event, self.job]
         return Call(head, self.jobs, given)
 
     def set_field(self, place, field, value):
@@ -173,6 +175,10 @@ def landed(dice, crates, problem):
     return replace(problem, jobs=crates.land(dice, problem.jobs), gap=crates.gap)
 
 
+def planned_table(dice, crates):
+    return planned(dice, landed(dice, crates, dice.choice((drawn_table, drawn_table, large_table))(dice)))
+
+
 def base_draft(dice, kind, jobs=None, crates=ON_TIME):
     """A call in order, for faults to be put in; its plan is valid."""
     table = random_table(dice, jobs, dice.choice((5, 33, 64)), 2, 9) if jobs else drawn_table(dice)
@@ -189,11 +195,52 @@ def cut_to_limits(draft):
     return draft
 
 
+# Offered plans: a valid one, and what may be done to it.
+
+def moved(dice, problem, starts):
+    """One job a quarter hour sooner or later."""
+    if jobs_in(starts):
+        j = dice.choice(jobs_in(starts))
+        starts[j] = max(0, starts[j] + dice.choice((-1, 1)))
+
+
+def left_out(dice, problem, starts):
+    if starts:
+        starts[dice.randrange(len(starts))] = OUT
+
+
+def put_in(dice, problem, starts):
+    """A job anywhere, also beyond all bounds."""
+    if starts:
+        starts[dice.randrange(len(starts))] = dice.choice((0, dice.randint(0, problem.bound + 1), OUT - 1, OUT - LONGEST))
+
+
+def swapped(dice, problem, starts):
+    if len(starts) > 1:
+        a, b = dice.sample(range(len(starts)), 2)
+        starts[a], starts[b] = starts[b], starts[a]
+
+
+def kept(dice, problem, starts):
+    """The valid plan as it is."""
+
+
+def some_offer(dice, crates):
+    """A plan that is valid or nearly so; now and then the bound is too early for it, or more is wanted."""
+    problem, starts = planned_table(dice, crates)
+    dice.choice((kept, kept, kept, moved, moved, left_out, put_in, swapped))(dice, problem, starts)
+    if dice.random() < 0.1:
+        problem = replace(problem, bound=max(0, last_end(problem, starts) - 1))
+    if dice.random() < 0.15:
+        problem = replace(problem, goals=problem.goals | some_facts(dice, 4, problem.atoms))
+    return replace(problem, bound=min(problem.bound, LAST_BOUND)), starts
+
+
 # Calls of more than one walk.
 
-def each_fault(dice, crates, places):
+def each_fault(dice, crates, places, kinds=TABLED):
     """Each fault by itself, in each kind of call, at each of the places of 24 jobs."""
-    for kind in TABLED:
+    for kind in kinds:
         for fault in crates.faults:
             for place in places:
                 draft = base_draft(dice, kind, 24, crates)

@@ -11,6 +11,7 @@ from dataclasses import replace
 sys.dont_write_bytecode = True
 import clashes
 import files
+import follows
 import gaps
 import readings
 import releases
@@ -18,9 +19,9 @@ import rounds
 import tidies
 from call import Call, Job
 from draft import (FAULTS, HYGIENE, LATE, MOST, OFFERED, ON_TIME, TABLED, Draft, base_draft, cut_to_limits, each_fault,
-                   landed)
+                   landed, planned_table, some_offer)
 from tables import (LAST_BOUND, LONGEST, NAMED, OUT, Problem, chain, clashing, drawn_table, house, interfere,
-                    large_table, last_end, planned, some_facts, tower)
+                    large_table, planned, tower)
 
 SEED, DRAWN = 20040725, 7000
 LATE_SEED, LATE_DRAWN = 20050725, 800
@@ -29,10 +30,7 @@ CLASH_SEED = 20070725
 TENTHS_SEED = 20080725
 ROUNDS_SEED = 20090725
 TIDY_SEED, TIDY_DRAWN = 20100725, 600
-
-
-def planned_table(dice, crates):
-    return planned(dice, landed(dice, crates, dice.choice((drawn_table, drawn_table, large_table))(dice)))
+FOLLOW_SEED, FOLLOW_DRAWN = 20110725, 100
 
 
 # Planning.
@@ -65,43 +63,9 @@ def with_lengths(draft, dice):
 
 # Offered plans.
 
-def moved(dice, problem, starts):
-    """One job a quarter hour sooner or later."""
-    inside = [j for j, start in enumerate(starts) if start != OUT]
-    if inside:
-        j = dice.choice(inside)
-        starts[j] = max(0, starts[j] + dice.choice((-1, 1)))
-
-
-def left_out(dice, problem, starts):
-    if starts:
-        starts[dice.randrange(len(starts))] = OUT
-
-
-def put_in(dice, problem, starts):
-    """A job anywhere, also beyond all bounds."""
-    if starts:
-        starts[dice.randrange(len(starts))] = dice.choice((0, dice.randint(0, problem.bound + 1), OUT - 1, OUT - LONGEST))
-
-
-def swapped(dice, problem, starts):
-    if len(starts) > 1:
-        a, b = dice.sample(range(len(starts)), 2)
-        starts[a], starts[b] = starts[b], starts[a]
-
-
-def kept(dice, problem, starts):
-    """The valid plan as it is."""
-
-
 def offered(dice, crates):
-    problem, starts = planned_table(dice, crates)
-    dice.choice((kept, kept, kept, moved, moved, left_out, put_in, swapped))(dice, problem, starts)
-    if dice.random() < 0.1:
-        problem = replace(problem, bound=max(0, last_end(problem, starts) - 1))
-    if dice.random() < 0.15:
-        problem = replace(problem, goals=problem.goals | some_facts(dice, 4, problem.atoms))
-    draft = Draft(dice.choice(OFFERED), replace(problem, bound=min(problem.bound, LAST_BOUND)), starts)
+    problem, starts = some_offer(dice, crates)
+    draft = Draft(dice.choice(OFFERED), problem, starts)
     draft.starts += [dice.choice((0, 7, OUT))] * dice.choice((0, 0, 1))
     return with_lengths(draft, dice).call()
 
@@ -299,8 +263,9 @@ def drawn(dice, count, crates):
         yield dice.choices(families, weights)[0](dice, crates)
 
 
-def some_tidies(dice):
-    yield from (tidies.drawn(dice) for _ in range(TIDY_DRAWN))
+def several(draw, count):
+    """The walk that draws so many calls."""
+    return lambda dice: (draw(dice) for _ in range(count))
 
 
 def mixed(seed, walks, count=0, crates=ON_TIME):
@@ -314,16 +279,18 @@ def mixed(seed, walks, count=0, crates=ON_TIME):
 
 def corpus():
     """The fixed calls: those that stood before there were releases, unchanged, behind them those with releases, those
-    under rule 2, those on clashes, those beside halves of a tenth, estimates that take many rounds, and last files to tidy."""
+    under rule 2, those on clashes, those beside halves of a tenth, estimates that take many rounds, files to tidy, and last
+    plans to follow."""
     return (mixed(SEED, WALKS, DRAWN, ON_TIME) + mixed(LATE_SEED, releases.WALKS, LATE_DRAWN, LATE)
             + mixed(GAP_SEED, gaps.WALKS, GAP_DRAWN, HYGIENE) + mixed(CLASH_SEED, clashes.WALKS)
             + mixed(TENTHS_SEED, (readings.beside_halves,)) + mixed(ROUNDS_SEED, rounds.WALKS)
-            + mixed(TIDY_SEED, (*tidies.WALKS, some_tidies)))
+            + mixed(TIDY_SEED, (*tidies.WALKS, several(tidies.drawn, TIDY_DRAWN)))
+            + mixed(FOLLOW_SEED, (*follows.WALKS, several(follows.drawn, FOLLOW_DRAWN))))
 
 
 def more(count, seed):
     """A tenth of the calls on clashes, one in fifty beside halves of a tenth, one in fifty for estimates that take many rounds, one in
-    twenty on files to tidy; of the others half under rule 2, half of all on tables with releases."""
+    twenty on files to tidy, one in twenty on plans to follow; of the others half under rule 2, half of all on tables with releases."""
     dice = random.Random(seed)
     for _ in range(count):
         chance = dice.random()
@@ -335,6 +302,8 @@ def more(count, seed):
             yield rounds.drawn(dice)
         elif chance < 0.19:
             yield tidies.drawn(dice)
+        elif chance < 0.24:
+            yield follows.drawn(dice)
         else:
             yield from drawn(dice, 1, dice.choice((ON_TIME, LATE, HYGIENE, HYGIENE)))
 

@@ -6,8 +6,8 @@ from call import Job, with_trailer
 from draft import (FAULTS, LATE, MOST, OFFERED, RECORD, TABLED, Draft, at_bounds, bad_release, base_draft,
                    cut_to_limits, each_named, landed, settled)
 from files import read_call, save_of, some_records
-from tables import (LAST_BOUND, LAST_RELEASE, LONGEST, OUT, Problem, chain, clashing, drawn_table, go_again, jobs_u,
-                    large_table, planned, released, word)
+from tables import (LAST_BOUND, LAST_RELEASE, LONGEST, OUT, Problem, chain, clashing, drawn_table, go_again, jobs_in,
+                    jobs_u, large_table, planned, released, word)
 
 EDGES = (0, 1, 255, 256, LAST_RELEASE - 1, LAST_RELEASE, LAST_RELEASE + 1, 32768, 65535)
 
@@ -76,7 +76,7 @@ def tight_plans(dice):
     for number in range(45):
         problem, starts = planned(dice, landed(dice, LATE, dice.choice((drawn_table, large_table))(dice)))
         tight = [0 if start == OUT else start for start in starts]
-        inside = [j for j, start in enumerate(starts) if start != OUT]
+        inside = jobs_in(starts)
         kind = OFFERED[number % 3]
         yield Draft(kind, released(problem, tight), starts).call()
         for early in (1, 3):

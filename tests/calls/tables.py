@@ -214,9 +214,14 @@ def interfere(a, b):
     return bool(a[2] & (b[0] | b[1]) or b[2] & (a[0] | a[1]))
 
 
+def jobs_in(starts):
+    """The jobs of a plan, by number."""
+    return [j for j, start in enumerate(starts) if start != OUT]
+
+
 def facts_at(problem, starts, time):
     """The opening facts after all finishes up to a time."""
-    ends = sorted((start + problem.jobs[j][3], j) for j, start in enumerate(starts) if start != OUT)
+    ends = sorted((starts[j] + problem.jobs[j][3], j) for j in jobs_in(starts))
     facts = problem.opening
     for end, j in ends:
         if end <= time:
@@ -227,7 +232,7 @@ def facts_at(problem, starts, time):
 def earliest_place(problem, starts, number):
     """The earliest start that sees the conditions, from the release on and behind all jobs placed so far that
     interfere; or None. What a finish shows is seen the gap later."""
-    placed = [j for j, start in enumerate(starts) if start != OUT]
+    placed = jobs_in(starts)
     ends = {j: starts[j] + problem.jobs[j][3] + problem.gap for j in placed}
     behind = [ends[j] for j in placed if interfere(problem.jobs[j], problem.jobs[number])]
     free = max([problem.jobs[number].release, *behind])
@@ -254,7 +259,7 @@ def some_plan(dice, problem, left_out=0.15, slack=(0, 0, 0, 1, 4)):
 
 
 def last_end(problem, starts):
-    return max((start + problem.jobs[j][3] for j, start in enumerate(starts) if start != OUT), default=0)
+    return max((starts[j] + problem.jobs[j][3] for j in jobs_in(starts)), default=0)
 
 
 def with_goals(dice, problem, starts):

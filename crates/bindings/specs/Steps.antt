@@ -4,15 +4,17 @@ use mathlib.Core.Path.{_≡_}
 use mathlib.Core.Bool.{Bool, true, false, _&&_}
 use mathlib.Core.List.{List, _++_}
 use Prim.Native.Nat.{ℕ, _+_, _<_}
+use lib.Dec.{ltb}
 use lib.ListN.{length, getD}
 use Rattle.facts.specs.Facts.{has}
 use Rattle.facts.specs.Least.{least, any}
+use Rattle.facts.specs.Words.{Word}
 use Rattle.rules.specs.Table.{Problem}
 use Rattle.rules.specs.Plans.{Plan, inPlan}
 use Rattle.rules.specs.Pairs.{feeds, binds, joined, pairIf}
 use Rattle.tables.specs.Tables.{filled}
 use Rattle.named.specs.declared.Row.{Row}
-use Rattle.bindings.specs.declared.Feeders.{Feeders}
+use Rattle.bindings.specs.declared.Before.{Before}
 use Rattle.bindings.specs.Bindings.{written}
 
 -- ── the bytes of a row ──
@@ -32,11 +34,19 @@ abbrev pub FillsRow : Row → (n base : ℕ) → (before after : List ℕ) → T
 FillsRow r n base before after =
     (f : ℕ → ℕ) (xs : List ℕ) → ((p : ℕ) → p < 64 → rowByte r n p ≡ f (base + p)) → before ≡ filled f base xs → after ≡ filled f (base + 64) xs
 
--- ── the jobs that feed another ──
+-- ── the jobs that come before another ──
 
 -- of each job b in the plan, the jobs that are named supports of its conditions
-abbrev pub FeedersOf : Problem → Plan → Feeders → Type 0
+abbrev pub FeedersOf : Problem → Plan → Before → Type 0
 FeedersOf P s f = (b a : ℕ) → b < P .count → a < P .count → has (getD (f .of) b 0) a ≡ (inPlan s b && feeds P s a b)
+
+-- the jobs that bind job b
+abbrev pub Binders : Problem → Plan → (b w : ℕ) → Type 0
+Binders P s b w = Word (λ a. ltb a (P .count) && binds P s a b) w
+
+-- of each job b, the jobs that bind it
+abbrev pub BindersOf : Problem → Plan → Before → Type 0
+BindersOf P s f = (b : ℕ) → b < P .count → Binders P s b (getD (f .of) b 0)
 
 -- ── the list of pairs ──
 

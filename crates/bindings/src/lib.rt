@@ -14,10 +14,10 @@ ghost use Rattle.rules.specs.Pairs.{binds, pairIf, pairBytes};
 ghost use Rattle.tables.specs.Tables.{problem, filled};
 ghost use Rattle.verdict.specs.Steps.{Given};
 ghost use Rattle.bindings.specs.Bindings.{Supports, Pairs};
-ghost use Rattle.bindings.specs.Steps.{rowByte, FillsRow, FeedersOf, pairRow, Appends};
+ghost use Rattle.bindings.specs.Steps.{rowByte, FillsRow, FeedersOf, Binders, BindersOf, pairRow, Appends};
 
-// For each job, the set of jobs that are named supports of its conditions.
-pub struct Feeders {
+// For each job, a set of jobs that come before it.
+pub struct Before {
     pub of: [u64; 24],
 }
 
@@ -103,7 +103,7 @@ fn givers(row: Row, n: usize) -> u64
 }
 
 // Of each job, the jobs that are named supports of its conditions.
-fn all_feeders(l: Loaded, q: Ask, s: &[u16]) -> Feeders
+pub fn all_feeders(l: Loaded, q: Ask, s: &[u16]) -> Before
     requires { ⌜ Given q (now s) ⌝ }
     ensures { λ r. ⌜ FeedersOf (problem l q) (starts (now (s .entry))) r ⌝ }
 {
@@ -112,11 +112,11 @@ fn all_feeders(l: Loaded, q: Ask, s: &[u16]) -> Feeders
     for b in 0..n {
         of[b] = givers(named::row_of(l, q, s, b), n);
     }
-    Feeders { of }
+    Before { of }
 }
 
 // Job a, then job b, is a binding pair.
-fn binds(l: Loaded, q: Ask, s: &[u16], f: Feeders, a: usize, b: usize) -> bool
+fn binds(l: Loaded, q: Ask, s: &[u16], f: Before, a: usize, b: usize) -> bool
     requires { ⌜ Given q (now s) × (a < q .jobs) × (b < q .jobs) × FeedersOf (problem l q) (starts (now s)) f ⌝ }
     ensures { λ r. ⌜ r ≡ binds (problem l q) (starts (now (s .entry))) a b ⌝ }
 {
@@ -128,6 +128,33 @@ fn binds(l: Loaded, q: Ask, s: &[u16], f: Feeders, a: usize, b: usize) -> bool
         return interference::interferes(l, a, b) || facts::has(f.of[b], a);
     }
     false
+}
+
+// The jobs that bind job b.
+fn binders(l: Loaded, q: Ask, s: &[u16], f: Before, b: usize) -> u64
+    requires { ⌜ Given q (now s) × (b < q .jobs) × FeedersOf (problem l q) (starts (now s)) f ⌝ }
+    ensures { λ r. ⌜ Binders (problem l q) (starts (now (s .entry))) b r ⌝ }
+{
+    let n = q.jobs;
+    let mut w = 0u64;
+    for a in 0..n {
+        w = facts::with_if(w, a, binds(l, q, s, f, a, b));
+    }
+    w
+}
+
+// Of each job, the jobs that bind it.
+pub fn all_binders(l: Loaded, q: Ask, s: &[u16]) -> Before
+    requires { ⌜ Given q (now s) ⌝ }
+    ensures { λ r. ⌜ BindersOf (problem l q) (starts (now (s .entry))) r ⌝ }
+{
+    let n = q.jobs;
+    let f = all_feeders(l, q, s);
+    let mut of = [0u64; 24];
+    for b in 0..n {
+        of[b] = binders(l, q, s, f, b);
+    }
+    Before { of }
 }
 
 // A pair is written behind what is there, where the test passes; the next place comes back.
@@ -144,7 +171,7 @@ fn put_if(out: &mut [u8], at: usize, yes: bool, a: usize, b: usize) -> usize
 }
 
 // The pairs with first job a are written behind what is there.
-fn put_row(l: Loaded, q: Ask, s: &[u16], f: Feeders, a: usize, at: usize, out: &mut [u8]) -> usize
+fn put_row(l: Loaded, q: Ask, s: &[u16], f: Before, a: usize, at: usize, out: &mut [u8]) -> usize
     requires { ⌜ Given q (now s) × (a < q .jobs) × FeedersOf (problem l q) (starts (now s)) f × (at + length (pairRow (problem l q) (starts (now s)) a (q .jobs)) ≤ length (now out)) ⌝ }
     ensures { λ r. ⌜ Appends (pairRow (problem l q) (starts (now (s .entry))) a (q .jobs)) at (now (out .entry)) (now (out .exit)) r ⌝ }
 {

@@ -39,7 +39,7 @@ use Rattle.planning.specs.Planning.{planningChecks, PlansWithin, BoundsWithin}
 use Rattle.planning.proofs.Found.{plan-found, bound-found}
 use Rattle.demands.specs.Kept.{InBytes, AllowedBy, BindsIn, Foreman, Backing, Usable, withBound}
 use Rattle.demands.proofs.Listed.{listed}
-use Rattle.demands.proofs.SamePlan.{valid-same}
+use Rattle.rules.proofs.SamePlan.{valid-same}
 
 -- ── the pairs in the bytes are the binding pairs ──
 

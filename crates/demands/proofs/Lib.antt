@@ -1,4 +1,3 @@
 pub mod Listed
-pub mod SamePlan
 pub mod Foreman
 pub mod Useless

@@ -25,7 +25,7 @@ use Rattle.rules.proofs.Checked.{in-order}
 use Rattle.bindings.proofs.Useless.{jobsU, askU, plan3}
 use Rattle.planning.specs.Planning.{PlansWithin, BoundsWithin}
 use Rattle.planning.proofs.Found.{plan-found, plan-none, bound-found, bound-none}
-use Rattle.demands.proofs.SamePlan.{valid-same}
+use Rattle.rules.proofs.SamePlan.{valid-same}
 
 -- goals {2, 3} within 12, and {2, 3, 4} within 14
 abbrev P1 : Problem

@@ -2,7 +2,7 @@
 use tables::Ask;
 use tables::Loaded;
 ghost use mathlib.Core.Path.{_≡_};
-ghost use mathlib.Core.Bool.{not, _&&_};
+ghost use mathlib.Core.Bool.{_&&_};
 ghost use Prim.Native.Nat.{_+_, _≤_, _<_};
 ghost use lib.Dec.{eqb, leb, ltb};
 ghost use Rattle.facts.specs.Facts.{has};
@@ -26,13 +26,6 @@ pub struct Holder {
 pub struct Row {
     pub start: u64,
     pub by: [u64; 24],
-}
-
-// The facts of a that are not in b.
-fn less(a: u64, b: u64) -> u64
-    ensures { λ r. ⌜ Word (λ p. has a p && not (has b p)) r ⌝ }
-{
-    a & !b
 }
 
 // The job is in and finishes, with a lag behind it, no later than `at`.
@@ -84,7 +77,7 @@ fn start_fits(l: Loaded, q: Ask, s: &[u16], c: Holder) -> u64
     requires { ⌜ Given q (now s) ⌝ }
     ensures { λ r. ⌜ Word (λ p. startFits (problem l q) (starts (now (s .entry))) p (consumerOf c)) r ⌝ }
 {
-    less(q.opening, blocked(l, q, s, c, 0, 0))
+    facts::less(q.opening, blocked(l, q, s, c, 0, 0))
 }
 
 // The facts that job a can support for the holder.
@@ -94,7 +87,7 @@ fn job_fits(l: Loaded, q: Ask, s: &[u16], c: Holder, a: usize) -> u64
 {
     let j = l.jobs[a];
     if over_by(s[a], j.duration, c.lag, c.at) {
-        return less(
+        return facts::less(
             j.additions,
             blocked(l, q, s, c, tables::gap(q), s[a] as u32),
         );
@@ -109,12 +102,12 @@ fn named_row(l: Loaded, q: Ask, s: &[u16], c: Holder, want: u64) -> Row
 {
     let n = q.jobs;
     let start = start_fits(l, q, s, c);
-    let mut left = less(want, start);
+    let mut left = facts::less(want, start);
     let mut by = [0u64; 24];
     for a in 0..n {
         let fit = job_fits(l, q, s, c, a);
         by[a] = left & fit;
-        left = less(left, fit);
+        left = facts::less(left, fit);
     }
     Row {
         start: want & start,

@@ -28,8 +28,8 @@ use denote.Ref.{RefT, now}
 use denote.Slice.{sliceTy, sliceVal, ShrSlice, MutSlice, Room, finally, slice-vals, shr-slice-tells, mut-slice-tells}
 use denote.Signature.{Signature, plain, mutSliceOf}
 use denote.Steps.{owned, peeks, heard, nothing}
-use denote.Struct.Declared.{Declared, fields, shape, row}
-use denote.Struct.Struct.{Plains, layout}
+use denote.Struct.Declared.{Declared, shape, row}
+use denote.Struct.Struct.{layout}
 use denote.Struct.Laws as LL
 use denote.Triple.Entry.{Vals, onEntry}
 use denote.Triple.Spec.{Meets, tripleOf}
@@ -37,35 +37,18 @@ use denote.Triple.Statement.{Contract, Triple}
 use denote.Triple.Call.{calls-at}
 use denote.Triple.Clauses.{Clauses, Ended, Lasts, closing, ensured, lasts}
 use denote.Triple.Walked.{says, Stays, stay-none-slice, stay-none, gave-slice, walkOf, goes-none-slice, goes-none, goes-gave-slice, ends-at, walked, walk-meets}
-use denote.Exit.{Last, left, yes}
+use denote.Exit.{yes}
 use Rattle.tables.specs.declared.Loaded.{Loaded}
 use Rattle.tables.specs.declared.Answer.{Answer}
 use Rattle.tables.proofs.Loaded as G
 use Rattle.tables.proofs.Loaded.Laws as G′
-use Rattle.tables.proofs.Ask as ask
-use Rattle.tables.proofs.Ask.Laws as ask′
 use Rattle.tables.proofs.Answer as L
 use Rattle.tables.proofs.Answer.Laws as L′
 use Rattle.tables.specs.declared.Action.{Action}
 use Rattle.records.specs.Records.{loaded}
 use Rattle.tables.proofs.Action as T
-use Rattle.nuzzlefleece.proofs.Save as save
-use Rattle.nuzzlefleece.proofs.Save.Laws as save′
+use Rattle.nuzzlefleece.proofs.Numbers.{Numbers}
 use Rattle.nuzzlefleece.proofs.Loading.{Load, v, Own, to-load, Loads, said-load, asked-load}
-
--- a struct of numbers, with its laws; at exit it is as it was passed, which computes at each
-pub record Numbers : Type 2 where
-  pub type : Declared
-  pub laws : LL.Laws type
-  pub plain : Plains (fields type)
-  pub last : (p : type .D) → Last (row type .exit yes) p
-  pub still : (p : type .D) (l : Last (row type .exit yes) p) → left (row type .exit yes) p l ≡ ftrue
-
-abbrev pub asks : Numbers
-asks = record { type = ask.the-type; laws = ask′.the-laws; plain = ask′.the-plain; last = λ p. tt; still = λ p l. refl }
-
-abbrev pub saves : Numbers
-saves = record { type = save.the-type; laws = save′.the-laws; plain = save′.the-plain; last = λ p. tt; still = λ p l. refl }
 
 module _ (N : Numbers) (E : RattleType) (ε : Ty) where
   abbrev Q : Declared

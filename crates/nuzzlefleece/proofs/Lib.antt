@@ -1,4 +1,5 @@
 pub mod Loading
+pub mod Numbers
 pub mod Judges
 pub mod Fills
 pub mod Derives

@@ -10,6 +10,10 @@ use Rattle.verdict.specs.Offered.{ChecksPlan}
 use Rattle.verdict.proofs.Only as verdict
 use Rattle.bindings.specs.Bindings.{Supports, Pairs}
 use Rattle.bindings.proofs.Only as bindings
+use Rattle.following.specs.declared.Watch.{Watch}
+use Rattle.following.specs.declared.Screen.{Screen}
+use Rattle.following.specs.Screens.{Following}
+use Rattle.following.proofs.Only as following
 use Rattle.estimates.specs.Earliest.{Earliest}
 use Rattle.estimates.proofs.Only as estimates
 use Rattle.settle.specs.Settle.{Settling}
@@ -51,6 +55,10 @@ module _ (ts : List Action) (q : Ask) (r s : Answer) where
 
     pub least-bound-only : BoundsWithin l q old new r → BoundsWithin l q old new′ s → (r ≡ s) × (new ≡ new′)
     least-bound-only = planning.least-bound-only l q old new new′ r s
+
+-- what the screen is handed is one struct
+pub follow-only : (ts : List Action) (w : Watch) (starts : List ℕ) (r s : Screen) → Following (loaded ts) w starts r → Following (loaded ts) w starts s → r ≡ s
+follow-only ts w starts r s = following.follow-only (loaded ts) w starts r s
 
 -- what is saved is one struct
 pub write-file-only : (ts : List Action) (w : Save) (old new new′ : List ℕ) (r s : Answer) → Writes (loaded ts) (w .ask) (w .used) old new r → Writes (loaded ts) (w .ask) (w .used) old new′ s → (r ≡ s) × (new ≡ new′)

@@ -23,6 +23,10 @@ use Rattle.tables.proofs.Calls.{call-checks}
 use Rattle.verdict.specs.Offered.{offered, ChecksPlan}
 use Rattle.verdict.proofs.Accepted.{offered-checks}
 use Rattle.bindings.specs.Bindings.{Supports, Pairs}
+use Rattle.rules.proofs.Answering.{no-second}
+use Rattle.following.specs.declared.Watch.{Watch}
+use Rattle.following.specs.declared.Screen.{Screen}
+use Rattle.following.specs.Screens.{Following}
 use Rattle.estimates.specs.Earliest.{Earliest}
 use Rattle.settle.specs.Settle.{Settling}
 use Rattle.settle.proofs.Faults.{all-checks}
@@ -57,14 +61,18 @@ ruled : {A N : Type 0} (n : ℕ) (v : Verdict) → Ruled v A n N → Second v
 ruled n v (inl (e, a)) = subst Second (sym e) none
 ruled n v (inr (e, k)) = subst Second (sym e) (λ z. refl)
 
+-- what is said behind checks, where it has none
+behind : {C : Verdict → Verdict} (k : Checks C) (v : Verdict) → (C accepted ≡ accepted → Second v) → Second (C v)
+behind {C} k v f = go (ℕ-discrete (C accepted .number) 0)
+  where
+    go : Dec (C accepted .number ≡ 0) → Second (C v)
+    go (yes z) = seconds C k v (f (went-on C k z accepted))
+    go (no z) = subst Second (sym (stopped C k z v)) (seconds C k accepted none)
+
 -- a call that fills lent memory
 filling : {C : Verdict → Verdict} (k : Checks C) {A : Verdict → ℕ → (ℕ → ℕ) → Type 0} {nay n : ℕ} {old new : List ℕ} {r : Answer}
     → ((v : Verdict) (value : ℕ) (s : ℕ → ℕ) → A v value s → Second v) → Fills C A nay n old new r → Told12 r
-filling {C} k {A} {nay} f x = answered (C (x .v)) (x .value) nay (go (ℕ-discrete (C accepted .number) 0)) (x .says)
-  where
-    go : Dec (C accepted .number ≡ 0) → Second (C (x .v))
-    go (yes z) = seconds C k (x .v) (f (x .v) (x .value) (x .s) (x .behind (went-on C k z accepted)))
-    go (no z) = subst Second (sym (stopped C k z (x .v))) (seconds C k accepted none)
+filling {C} k {A} {nay} f x = answered (C (x .v)) (x .value) nay (behind k (x .v) (λ e. f (x .v) (x .value) (x .s) (x .behind e))) (x .says)
 
 module _ (l : Loaded) (q : Ask) (r : Answer) where
   -- an answer that judges an offered plan
@@ -108,6 +116,9 @@ module _ (l : Loaded) (q : Ask) (r : Answer) where
 
         told : Second (writeChecks l q used (length old))
         told = if-second (ltb 65536 (lengthAfter used (q .jobs))) 1 0 (callChecks inner (q .bound) l q accepted) (seconds (callChecks inner (q .bound) l q) (call-checks inner (q .bound) l q) accepted none)
+
+pub follow-second : (l : Loaded) (w : Watch) (s : List ℕ) (r : Screen) → Following l w s r → Told12 (r .answer)
+follow-second l w s r x = answered (offered false l (w .ask) s (x .v)) 0 0 (behind (offered-checks false l (w .ask) s) (x .v) (λ e z. no-second _ _ _ _ _ _ _ _ _ _ _ (x .behind e))) (x .says)
 
 -- ── files and readings ──
 

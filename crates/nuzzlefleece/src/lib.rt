@@ -5,6 +5,7 @@ ghost use Rattle.rules.specs.Clashes.{clashOf, numbers};
 ghost use Rattle.interference.specs.Records.{recordMasks};
 ghost use Rattle.verdict.specs.Offered.{ChecksPlan};
 ghost use Rattle.bindings.specs.Bindings.{Supports, Pairs};
+ghost use Rattle.following.specs.Screens.{Following};
 ghost use Rattle.estimates.specs.Earliest.{Earliest};
 ghost use Rattle.settle.specs.Settle.{Settling};
 ghost use Rattle.planning.specs.Planning.{PlansWithin, BoundsWithin};
@@ -16,6 +17,8 @@ ghost use Rattle.nuzzlefleece.specs.Files.{told, Reads};
 ghost use Rattle.readings.specs.Marks.{marksOf};
 ghost use Rattle.readings.specs.Opening.{Opens};
 ghost use Rattle.page.specs.Page.{Pages};
+use following::Screen;
+use following::Watch;
 use jobfile::Read;
 use readings::BenchReading;
 use readings::Opening;
@@ -30,7 +33,7 @@ use tables::Loaded;
 pub extern "C" fn nuzzlefleece_version() -> u32
     ensures { λ r. ⌜ r ≡ version ⌝ }
 {
-    10500
+    10600
 }
 
 // The verdict on an offered plan.
@@ -94,6 +97,15 @@ pub extern "C" fn nuzzlefleece_binding_pairs(
 {
     let l = records::load(t);
     bindings::binding_pairs(l, q, starts, out)
+}
+
+// The words of started and finished jobs after an event of a plan's job, the facts now, and the jobs that may start.
+#[no_mangle]
+pub extern "C" fn nuzzlefleece_follow(t: &[Action], w: Watch, starts: &[u16]) -> Screen
+    ensures { λ r. ⌜ Following (loaded (now (t .entry))) w (now (starts .entry)) r ⌝ }
+{
+    let l = records::load(t);
+    following::follow(l, w, starts)
 }
 
 // The earliest estimates, one a job.

@@ -82,7 +82,7 @@ fn next_finish(l: Loaded, q: Ask, s: &[u16], from: u32, till: u32) -> u32
 }
 
 // The facts at time t: from finish to finish, so that hours in which nothing ends cost nothing.
-fn facts_at(l: Loaded, q: Ask, s: &[u16], t: u16) -> u64
+pub fn facts_at(l: Loaded, q: Ask, s: &[u16], t: u16) -> u64
     requires { ⌜ Given q (now s) ⌝ }
     ensures { λ r. ⌜ FactsAt (problem l q) (starts (now (s .entry))) t r ⌝ }
 {

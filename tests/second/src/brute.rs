@@ -1,8 +1,10 @@
 //! Slow ways, for the self-test only. To the first plan: every start vector in the stated order, and every order
 //! of jobs with each job as early as the ones before it and its release allow. To estimates and settled starts:
-//! every start vector. To clashes: every fact; to overlaps: every quarter hour.
+//! every start vector. To clashes: every fact; to overlaps: every quarter hour. To what events are allowed: every log.
 
+use crate::following::{Event, Worked};
 use crate::rules::{check_plan, facts_seen, finish, interfere, is_in, over, Clash, Job, Problem, FACTS, OUT};
+use std::collections::BTreeMap;
 
 /// The first fact, from 0 on, that one of the jobs deletes and the other has among these.
 fn lowest_deleted(a: &Job, b: &Job, among: fn(&Job) -> u64) -> Option<usize> {
@@ -111,7 +113,7 @@ pub fn least_bound(problem: &Problem) -> Option<(u16, Vec<u16>)> {
 
 /// The job's earliest start from its release on that sees its conditions, with all jobs placed before that interfere
 /// with it done, and the gap behind them.
-fn earliest_place(problem: &Problem, starts: &[u16], job: usize) -> Option<u16> {
+pub fn earliest_place(problem: &Problem, starts: &[u16], job: usize) -> Option<u16> {
     let jobs = problem.jobs;
     let last = problem.bound.checked_sub(jobs[job].duration)?;
     let placed = (0..jobs.len()).filter(|&other| starts[other] != OUT);
@@ -147,4 +149,55 @@ pub fn first_plan_by_orders(problem: &Problem) -> Option<Vec<u16>> {
     let mut best = None;
     try_orders(problem, &mut vec![OUT; problem.jobs.len()], &mut best);
     best
+}
+
+/// Whether an event may come after a log, looked up in the log itself.
+pub fn may_come(worked: &Worked, log: &[Event], event: Event) -> bool {
+    let in_plan = |job: usize| job < worked.starts.len() && is_in(worked.starts[job]);
+    let finished = |first: u8| log.contains(&Event::Finish(first as usize));
+    let kept = |&(first, second): &(u8, u8)| event != Event::Start(second as usize) || finished(first);
+    let in_turn = match event {
+        Event::Start(job) => in_plan(job) && worked.pairs.iter().all(kept),
+        Event::Finish(job) => log.contains(&Event::Start(job)),
+    };
+    in_turn && !log.contains(&event)
+}
+
+/// The opening facts after the finishes of a log, one by one.
+pub fn facts_after(worked: &Worked, log: &[Event]) -> u64 {
+    let jobs = worked.problem.jobs;
+    log.iter().fold(worked.problem.opening, |facts, event| match event {
+        Event::Start(_) => facts,
+        Event::Finish(job) => facts & !jobs[*job].deletions | jobs[*job].additions,
+    })
+}
+
+/// The words of the jobs that a log starts and finishes.
+pub fn words_of(log: &[Event]) -> (u64, u64) {
+    log.iter().fold((0, 0), |(started, finished), event| match event {
+        Event::Start(job) => (started | 1 << job, finished),
+        Event::Finish(job) => (started, finished | 1 << job),
+    })
+}
+
+/// For the words of every allowed log: the facts after each log that has them, with one of these logs.
+pub type Logs = BTreeMap<(u64, u64), BTreeMap<u64, Vec<Event>>>;
+
+/// The events that may come after a log.
+pub fn next_events(worked: &Worked, log: &[Event]) -> Vec<Event> {
+    let events = (0..worked.starts.len()).flat_map(|job| [Event::Start(job), Event::Finish(job)]);
+    events.filter(|&event| may_come(worked, log, event)).collect()
+}
+
+/// Every allowed log, event by event. What may come depends on the events that have come and not on their order, so a
+/// log is left where another with its words and facts was gone on from.
+pub fn every_log(worked: &Worked) -> Logs {
+    let (mut logs, mut open) = (Logs::new(), vec![vec![]]);
+    while let Some(log) = open.pop() {
+        let alike = logs.entry(words_of(&log)).or_default();
+        if alike.insert(facts_after(worked, &log), log.clone()).is_none() {
+            open.extend(next_events(worked, &log).iter().map(|&event| [&log[..], &[event]].concat()));
+        }
+    }
+    logs
 }

@@ -1,6 +1,7 @@
 //! A stream of calls: a header of 16 words, the lent records, the given tables; one line of answer a call.
 
 use crate::files::{job_bytes, job_from, read_file, tidy, write_file, Saved};
+use crate::following::{follow, Watch};
 use crate::plan::{least_bound, plan_within};
 use crate::readings::{opening_facts, Marks, Reading};
 use crate::rules::{
@@ -133,6 +134,7 @@ impl Call {
             10 => self.answer_readings(),
             11 => self.answer_clash(),
             12 => self.answer_in_buffer(|buffer| tidy(buffer, self.head[6])),
+            13 => self.answer_following(),
             _ => unknown(),
         }
     }
@@ -179,6 +181,15 @@ impl Call {
             [one, other] => told_clash(clash(one, other)),
             _ => unknown(),
         }
+    }
+
+    /// The answer, then the screen.
+    fn answer_following(&self) -> String {
+        let [started, finished, event, job] = [6, 7, 12, 13].map(|word| self.head[word]);
+        let watch = Watch { started, finished, event: event as u8, job: job as u8 };
+        let (result, screen) = follow(&self.given(), &halves(&self.table), &watch);
+        let words = [screen.started, screen.finished, screen.facts, screen.may_start];
+        format!("{} {}", told(&result, 0), words.map(|word| word.to_string()).join(" "))
     }
 }
 

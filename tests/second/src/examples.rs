@@ -1,6 +1,7 @@
-//! Job tables for the self-test: jobs U, house batches, trolleys, chains, random tables.
+//! Job tables for the self-test: jobs U, house batches, trolleys, chains, random tables and plans.
 
-use crate::rules::{Given, Job};
+use crate::brute::earliest_place;
+use crate::rules::{finish, Given, Job, Problem, OUT};
 
 /// A table that owns its records.
 #[derive(Clone)]
@@ -235,6 +236,21 @@ impl Dice {
             }
         }
         facts & (!example.opening | self.next())
+    }
+
+    /// A plan that is valid whatever is wanted: jobs in a random order, each as early as the ones before it allow, or a
+    /// little later; a job that finds no place is out, and some that do are never drawn.
+    pub fn plan(&mut self, problem: &Problem) -> Vec<u16> {
+        let mut starts = vec![OUT; problem.jobs.len()];
+        for _ in 0..3 * starts.len() {
+            let job = self.below(starts.len() as u64) as usize;
+            let later = self.below(3) as u16;
+            if let (OUT, Some(start)) = (starts[job], earliest_place(problem, &starts, job)) {
+                let fits = finish(&problem.jobs[job], start + later) <= problem.bound as u32;
+                starts[job] = if fits { start + later } else { start };
+            }
+        }
+        starts
     }
 
     fn job(&mut self, atoms: u64, longest: u64) -> Job {

@@ -5,6 +5,7 @@ mod brute;
 mod calls;
 mod examples;
 mod files;
+mod following;
 mod plan;
 mod readings;
 mod rules;

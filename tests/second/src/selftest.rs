@@ -4,11 +4,12 @@ use crate::brute;
 use crate::calls;
 use crate::examples::{chain, go_twice, house, job, jobs_u, trolley, word, Dice, Example};
 use crate::files::{job_bytes, read_file, tidy, write_file, Saved};
+use crate::following::{follow, Event, Screen, Watch, Worked};
 use crate::plan::{least_bound, plan_within};
 use crate::readings::{opening_facts, tenths, Marks, Reading};
 use crate::rules::{
-    binding_pairs, check_bounded_table, check_offered, check_plan, clash, estimates, job_estimates, pairs_of,
-    settle, supports, Clash, Given, Job, Refusal, NO_SUPPORT, OUT, START,
+    binding_pairs, check_bounded_table, check_offered, check_plan, clash, estimates, facts_at, job_estimates,
+    members, pairs_of, settle, supports, Clash, Given, Job, Problem, Refusal, NO_SUPPORT, OUT, START,
 };
 use crate::{bench, rules};
 use std::process::ExitCode;
@@ -52,6 +53,7 @@ pub fn run() -> ExitCode {
     test_offered_plans(&mut tally);
     test_offered_under_rule_2(&mut tally);
     test_supports_and_pairs(&mut tally);
+    test_following(&mut tally);
     test_estimates(&mut tally);
     test_settling(&mut tally);
     test_gap_as_length(&mut tally);
@@ -586,10 +588,7 @@ fn check_random_pairs(tally: &mut Tally, example: &Example) {
     let _ = supports(&example.given(), &starts, &mut table);
     for (job, &start) in starts.iter().enumerate().filter(|&(_, &start)| start != OUT) {
         let row = &table[64 * job..];
-        tally.check(
-            "a support",
-            rules::members(problem.jobs[job].conditions).all(|fact| row[fact] != NO_SUPPORT),
-        );
+        tally.check("a support", members(problem.jobs[job].conditions).all(|fact| row[fact] != NO_SUPPORT));
         tally.check("not before the estimate", job_estimates(&problem)[job] <= start);
     }
     let pairs: Vec<u8> = pairs_of(&problem, &starts).into_iter().flat_map(|(a, b)| [a, b]).collect();
@@ -599,6 +598,182 @@ fn check_random_pairs(tally: &mut Tally, example: &Example) {
     tally.same("settled", result, Ok(()));
     let no_later = settled.iter().zip(&starts).all(|(least, start)| least <= start);
     tally.check("settled plan", check_plan(&problem, &settled).is_ok() && no_later);
+}
+
+/// By hand, then drawn plans, with releases and without, under both rules, against every log.
+fn test_following(tally: &mut Tally) {
+    test_following_p3(tally);
+    test_following_refusals(tally);
+    let mut dice = Dice(0x0f01_10e5_f02e_3a11);
+    for (tables, jobs, facts) in [(400, 4, 5), (150, 5, 7), (12, 6, 9)] {
+        for _ in 0..tables {
+            let table = Example { bound: 60, ..dice.table(jobs, facts, 4, 0) };
+            for (way, example) in dice.in_every_way(&table, 12) {
+                check_drawn_plan(tally, &mut dice, &format!("logs of up to {jobs} jobs{way}"), &example);
+            }
+        }
+    }
+}
+
+/// An event, the screen that it gives, or the place of refusal 19.
+type Step = ((u8, u8), Result<[u64; 4], u64>);
+
+/// One event after the other, each with the words of the last screen; a refusal hands the words back and shows nothing.
+fn check_steps(tally: &mut Tally, what: &str, example: &Example, starts: &[u16], steps: &[Step]) {
+    let (mut started, mut finished) = (0, 0);
+    for &((event, job), wanted) in steps {
+        let found = follow(&example.given(), starts, &Watch { started, finished, event, job });
+        let (result, [s, f, facts, may_start]) = match wanted {
+            Ok(screen) => (Ok(0), screen),
+            Err(place) => (refused(19, place), [started, finished, 0, 0]),
+        };
+        let screen = Screen { started: s, finished: f, facts, may_start };
+        tally.same(&format!("{what}, event {event} of job {job}"), found, (result, screen));
+        (started, finished) = (s, f);
+    }
+}
+
+/// P3 by hand: unpack before all others, wash before drench; drench may be done before warm starts, against the order
+/// of the starts. Neither the release of warm nor rule 2 makes a difference.
+fn test_following_p3(tally: &mut Tally) {
+    let steps: [Step; 20] = [
+        ((1, 0), Err(0)),
+        ((0, 1), Err(1)),
+        ((0, 0), Ok([0b0001, 0b0000, 0b00001, 0b0000])),
+        ((0, 0), Err(0)),
+        ((0, 3), Err(3)),
+        ((1, 0), Ok([0b0001, 0b0001, 0b00010, 0b1100])),
+        ((1, 0), Err(0)),
+        ((0, 1), Err(1)),
+        ((0, 3), Ok([0b1001, 0b0001, 0b00010, 0b0100])),
+        ((0, 1), Err(1)),
+        ((1, 3), Ok([0b1001, 0b1001, 0b10010, 0b0110])),
+        ((2, 1), Err(1)),
+        ((0, 1), Ok([0b1011, 0b1001, 0b10010, 0b0100])),
+        ((1, 1), Ok([0b1011, 0b1011, 0b10110, 0b0100])),
+        ((1, 2), Err(2)),
+        ((0, 2), Ok([0b1111, 0b1011, 0b10110, 0b0000])),
+        ((0, 4), Err(4)),
+        ((255, 2), Err(2)),
+        ((1, 2), Ok([0b1111, 0b1111, 0b11110, 0b0000])),
+        ((1, 255), Err(255)),
+    ];
+    let all = jobs_u(&[2, 3, 4], 14);
+    check_steps(tally, "P3", &all, &[0, 7, 4, 4], &steps);
+    check_steps(tally, "late crate", &all.released(&[0, 0, 6, 0]), &[0, 7, 6, 4], &steps);
+    check_steps(tally, "P3 under rule 2", &all.under_rule_2(), &[0, 9, 5, 5], &steps);
+    let unwashed: [Step; 5] = [
+        ((0, 0), Ok([0b001, 0b000, 0b0001, 0b000])),
+        ((1, 0), Ok([0b001, 0b001, 0b0010, 0b110])),
+        ((0, 3), Err(3)),
+        ((0, 1), Ok([0b011, 0b001, 0b0010, 0b100])),
+        ((1, 3), Err(3)),
+    ];
+    check_steps(tally, "P1", &jobs_u(&[2, 3], 12), &[0, 4, 4, OUT], &unwashed);
+    check_steps(tally, "P5", &jobs_u(&[0], 0), &[OUT; 4], &[((0, 0), Err(0)), ((1, 0), Err(0))]);
+}
+
+/// The plan is looked at before the words, and they before the event.
+fn test_following_refusals(tally: &mut Tally) {
+    let all = jobs_u(&[2, 3, 4], 12);
+    let told = |starts: &[u16], started, finished| {
+        let (result, screen) = follow(&all.given(), starts, &Watch { started, finished, event: 7, job: 9 });
+        (result, screen == Screen { started, finished, facts: 0, may_start: 0 })
+    };
+    let plan = [0, 7, 4, 4];
+    tally.same("an event that is none", told(&plan, 1, 1), (refused(19, 9), true));
+    tally.same("words before the event", told(&plan, 2, 0), (refused(19, 65_535), true));
+    tally.same("finished without a start", told(&plan, 1, 3), (refused(19, 65_535), true));
+    tally.same("drench before wash", told(&plan, 0b1011, 1), (refused(19, 65_535), true));
+    for bit in 4..64 {
+        for (started, finished) in [(1 | 1 << bit, 1), (1, 1 | 1 << bit), (1 | 1 << bit, 1 | 1 << bit)] {
+            tally.same("a bit beyond the table", told(&plan, started, finished), (refused(19, 65_535), true));
+        }
+    }
+    tally.same("short starts", told(&plan[..3], 2, 0), (refused(3, 0), true));
+    tally.same("a late end", told(&[0, 7, 5, 4], 2, 0), (refused(11, 2), true));
+    tally.same("an overlap", told(&[0, 6, 4, 4], 2, 0), (overlapping(1, 2), true));
+    tally.same("a condition", told(&[0, 7, 3, 4], 2, 0), (refused(13, 2), true));
+    tally.same("a goal", told(&[0, 4, 4, 6], 2, 0), (refused(14, 2), true));
+}
+
+/// A drawn plan, whose goals are some of the facts that it leads to.
+fn check_drawn_plan(tally: &mut Tally, dice: &mut Dice, what: &str, example: &Example) {
+    let table = check_bounded_table(&example.given()).expect("random tables pass the checks");
+    let starts = dice.plan(&table);
+    let problem = Problem { goals: facts_at(&table, &starts, table.bound as u32) & dice.next(), ..table };
+    tally.same(what, check_plan(&problem, &starts), Ok(()));
+    let worked = Worked::new(problem, &starts);
+    tally.check(&format!("{what}: the binding pairs"), worked.pairs == pairs_of(&problem, &starts));
+    let logs = brute::every_log(&worked);
+    for alike in logs.values() {
+        tally.same(&format!("{what}: facts of all logs with the same words"), alike.len(), 1);
+        for (&facts, log) in alike {
+            check_moment(tally, what, &worked, log, facts);
+            check_events(tally, what, &worked, log);
+        }
+    }
+    check_words(tally, dice, what, &worked, &logs);
+}
+
+/// After a log the jobs that run have their conditions, and an event may come as long as a job of the plan has not
+/// finished; when all have, the facts are those that the plan has at the bound.
+fn check_moment(tally: &mut Tally, what: &str, worked: &Worked, log: &[Event], facts: u64) {
+    let (started, finished) = brute::words_of(log);
+    let kept = members(started & !finished).all(|job| worked.problem.jobs[job].conditions & !facts == 0);
+    tally.check(&format!("{what}: conditions hold from start to finish"), kept);
+    let goes_on = !brute::next_events(worked, log).is_empty();
+    let done = |(job, &start): (usize, &u16)| start == OUT || finished >> job & 1 == 1;
+    let all_done = worked.starts.iter().enumerate().all(done);
+    tally.check(&format!("{what}: an event may come while jobs are left"), goes_on != all_done);
+    if all_done {
+        let planned = facts_at(&worked.problem, worked.starts, worked.problem.bound as u32);
+        tally.same(&format!("{what}: facts at the end"), facts, planned);
+    }
+}
+
+/// After a log each event of each job, and what is no event or no job: allowed and shown as the log itself says.
+fn check_events(tally: &mut Tally, what: &str, worked: &Worked, log: &[Event]) {
+    let (started, finished) = brute::words_of(log);
+    for job in (0..=worked.starts.len() as u8).chain([63, 64, 65, 255]) {
+        for event in [0, 1, 2, 255] {
+            let found = worked.after(&Watch { started, finished, event, job });
+            let right = found == screen_by_log(worked, log, event, job);
+            tally.check(&format!("{what}: event {event} of job {job} after {log:?}: {found:?}"), right);
+        }
+    }
+}
+
+/// The screen, or the refusal, that an event after a log must give.
+fn screen_by_log(worked: &Worked, log: &[Event], event: u8, job: u8) -> Result<Screen, Refusal> {
+    let events = [Event::Start(job as usize), Event::Finish(job as usize)];
+    let log = match events.get(event as usize) {
+        Some(&event) if brute::may_come(worked, log, event) => [log, &[event]].concat(),
+        _ => return refused(19, job as u64),
+    };
+    let (started, finished) = brute::words_of(&log);
+    let starting = (0..worked.starts.len()).filter(|&job| brute::may_come(worked, &log, Event::Start(job)));
+    let may_start = starting.fold(0, |word, job| word | 1 << job);
+    Ok(Screen { started, finished, facts: brute::facts_after(worked, &log), may_start })
+}
+
+/// Every two words over the jobs are taken exactly where some log has them, and with a bit beyond the jobs none are.
+fn check_words(tally: &mut Tally, dice: &mut Dice, what: &str, worked: &Worked, logs: &brute::Logs) {
+    let jobs = worked.starts.len() as u64;
+    let taken = |started, finished| {
+        worked.after(&Watch { started, finished, event: 9, job: 9 }) != refused(19, 65_535)
+    };
+    for words in 0..1 << (2 * jobs) {
+        let (started, finished) = (words >> jobs, words & ((1 << jobs) - 1));
+        let right = taken(started, finished) == logs.contains_key(&(started, finished));
+        tally.check(&format!("{what}: words {started:b} and {finished:b}"), right);
+    }
+    for &(started, finished) in logs.keys() {
+        let beyond = 1 << (jobs + dice.below(64 - jobs));
+        for (one, other) in [(beyond, 0), (0, beyond), (beyond, beyond)] {
+            tally.check(&format!("{what}: bit {beyond:x}"), !taken(started | one, finished | other));
+        }
+    }
 }
 
 fn test_estimates(tally: &mut Tally) {
@@ -722,7 +897,7 @@ fn test_settling_against_start_vectors(tally: &mut Tally) {
         let example = if number % 2 == 0 { example } else { example.under_rule_2() };
         let problem = check_bounded_table(&example.given()).expect("random tables pass the checks");
         let set = dice.next() & ((1 << problem.jobs.len()) - 1);
-        let inside: Vec<usize> = rules::members(set).collect();
+        let inside: Vec<usize> = members(set).collect();
         let pairs: Vec<u8> = match inside.len() as u64 {
             0 => vec![],
             jobs => (0..2 * dice.below(4)).map(|_| inside[dice.below(jobs) as usize] as u8).collect(),
@@ -1188,6 +1363,11 @@ fn test_calls(tally: &mut Tally) {
         (clashing[8], clashing[9]) = (records.len() as u64, 0);
         stream.extend(call_bytes(clashing, &records, &[]));
     }
+    for (finished, event, job) in [(1, 1, 3), (1, 0, 1), (1 << 63, 0, 2)] {
+        let mut following = head(13, 0b1001, finished, 8, 0, 0);
+        (following[12], following[13]) = (event, job);
+        stream.extend(call_bytes(following, &jobs, &starts));
+    }
     let mut output = Vec::new();
     let whole = calls::run(&mut std::io::BufReader::new(&stream[..]), &mut output).is_ok();
     let expected = [
@@ -1212,6 +1392,9 @@ fn test_calls(tally: &mut Tally) {
         "0 64",
         "unknown",
         "unknown",
+        "0 0 0 0 9 9 18 6",
+        "19 0 1 0 9 1 0 0",
+        "19 0 65535 0 9 9223372036854775808 0 0",
     ];
     tally.same(
         "stream of calls",

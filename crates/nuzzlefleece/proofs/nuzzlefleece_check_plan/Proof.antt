@@ -12,6 +12,7 @@ use Rattle.verdict.proofs.check_plan.Symbol as c-def
 use Rattle.verdict.proofs.check_plan.Symbol.{name as #c}
 use Rattle.verdict.proofs.check_plan.Met as c-thm
 use Rattle.nuzzlefleece.proofs.Loading.{Load}
+use Rattle.nuzzlefleece.proofs.Numbers.{asks, answers}
 use Rattle.nuzzlefleece.proofs.Judges.{Core, judge-meets}
 use Rattle.nuzzlefleece.proofs.nuzzlefleece_check_plan.Key.{name as #f}
 use Rattle.nuzzlefleece.proofs.nuzzlefleece_check_plan as f
@@ -23,6 +24,6 @@ unfolding code.routine tablesOf
 nuzzlefleece-check-plan-spec 𝓤 H 𝓜 𝓖 𝓡 =
     entered 𝓤 H (tripleOf 𝓤 H (𝓖 .A) f.signature (f.spec 𝓤 H (𝓖 .A) (𝓜 .mem) (𝓡 .run)))
     (tables 𝓤 H 𝓜 𝓡 code.env .C) (tables 𝓤 H 𝓜 𝓡 code.env .Λ) #f code.function (code.unfolded 𝓤 H 𝓜 𝓡)
-    (judge-meets u16 ChecksPlan #g #c 𝓤 H (𝓖 .A) (givenOf 𝓤 H 𝓜 𝓖) (𝓜 .mem) (𝓡 .run) (tablesOf 𝓤 H 𝓜 (tables 𝓤 H 𝓜 𝓡 code.env))
+    (judge-meets asks answers u16 ChecksPlan #g #c 𝓤 H (𝓖 .A) (givenOf 𝓤 H 𝓜 𝓖) (𝓜 .mem) (𝓡 .run) (tablesOf 𝓤 H 𝓜 (tables 𝓤 H 𝓜 𝓡 code.env))
     (cited 𝓤 H (Load 𝓤 H (𝓖 .A) (𝓜 .mem) (𝓡 .run)) 𝓜 𝓡 code.env #g g-def.routine code.calls-records·load (g-thm.met 𝓤 H 𝓜 𝓖 𝓡))
-    (cited 𝓤 H (Core u16 ChecksPlan 𝓤 H (𝓖 .A)) 𝓜 𝓡 code.env #c c-def.routine code.calls-verdict·check-plan (c-thm.met 𝓤 H 𝓜 𝓖 𝓡)))
+    (cited 𝓤 H (Core asks answers u16 ChecksPlan 𝓤 H (𝓖 .A)) 𝓜 𝓡 code.env #c c-def.routine code.calls-verdict·check-plan (c-thm.met 𝓤 H 𝓜 𝓖 𝓡)))

@@ -13,7 +13,8 @@ use Rattle.estimates.proofs.earliest.Symbol as c-def
 use Rattle.estimates.proofs.earliest.Symbol.{name as #c}
 use Rattle.estimates.proofs.earliest.Met as c-thm
 use Rattle.nuzzlefleece.proofs.Loading.{Load}
-use Rattle.nuzzlefleece.proofs.Fills.{asks, Core, fill-meets}
+use Rattle.nuzzlefleece.proofs.Numbers.{asks}
+use Rattle.nuzzlefleece.proofs.Fills.{Core, fill-meets}
 use Rattle.nuzzlefleece.proofs.nuzzlefleece_earliest.Key.{name as #f}
 use Rattle.nuzzlefleece.proofs.nuzzlefleece_earliest as f
 use Rattle.nuzzlefleece.proofs.nuzzlefleece_earliest.Statement as stated

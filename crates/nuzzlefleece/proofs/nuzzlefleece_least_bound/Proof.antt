@@ -13,7 +13,8 @@ use Rattle.planning.proofs.least_bound.Symbol as c-def
 use Rattle.planning.proofs.least_bound.Symbol.{name as #c}
 use Rattle.planning.proofs.least_bound.Met as c-thm
 use Rattle.nuzzlefleece.proofs.Loading.{Load}
-use Rattle.nuzzlefleece.proofs.Fills.{asks, Core, fill-meets}
+use Rattle.nuzzlefleece.proofs.Numbers.{asks}
+use Rattle.nuzzlefleece.proofs.Fills.{Core, fill-meets}
 use Rattle.nuzzlefleece.proofs.nuzzlefleece_least_bound.Key.{name as #f}
 use Rattle.nuzzlefleece.proofs.nuzzlefleece_least_bound as f
 use Rattle.nuzzlefleece.proofs.nuzzlefleece_least_bound.Statement as stated

@@ -13,7 +13,8 @@ use Rattle.planning.proofs.plan_within.Symbol as c-def
 use Rattle.planning.proofs.plan_within.Symbol.{name as #c}
 use Rattle.planning.proofs.plan_within.Met as c-thm
 use Rattle.nuzzlefleece.proofs.Loading.{Load}
-use Rattle.nuzzlefleece.proofs.Fills.{asks, Core, fill-meets}
+use Rattle.nuzzlefleece.proofs.Numbers.{asks}
+use Rattle.nuzzlefleece.proofs.Fills.{Core, fill-meets}
 use Rattle.nuzzlefleece.proofs.nuzzlefleece_plan_within.Key.{name as #f}
 use Rattle.nuzzlefleece.proofs.nuzzlefleece_plan_within as f
 use Rattle.nuzzlefleece.proofs.nuzzlefleece_plan_within.Statement as stated

@@ -13,7 +13,8 @@ use Rattle.nuzzlefleece.proofs.append.Symbol as c-def
 use Rattle.nuzzlefleece.proofs.append.Symbol.{name as #c}
 use Rattle.nuzzlefleece.proofs.append.Met as c-thm
 use Rattle.nuzzlefleece.proofs.Loading.{Load}
-use Rattle.nuzzlefleece.proofs.Fills.{saves, Core, fill-meets}
+use Rattle.nuzzlefleece.proofs.Numbers.{saves}
+use Rattle.nuzzlefleece.proofs.Fills.{Core, fill-meets}
 use Rattle.nuzzlefleece.proofs.nuzzlefleece_write_file.Key.{name as #f}
 use Rattle.nuzzlefleece.proofs.nuzzlefleece_write_file as f
 use Rattle.nuzzlefleece.proofs.nuzzlefleece_write_file.Statement as stated

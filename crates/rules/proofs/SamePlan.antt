@@ -23,7 +23,7 @@ module _ (P : Problem) (s z : Plan) (same : (i : ℕ) → i < P .count → s i �
       (ap (λ (x : ℕ). not (eqb x 65535) && eqb (x + P .duration k) t) (same k (omega arith)))
       (finishes-same p t k b c (omega arith) e)
 
-  holds-same : (p t : ℕ) → holds P s p t ≡ holds P z p t
+  pub holds-same : (p t : ℕ) → holds P s p t ≡ holds P z p t
   unfolding holds
   holds-same p zero = refl
   holds-same p (suc t) = finishes-same p (suc t) (P .count) _ _ (omega arith) (holds-same p t)
