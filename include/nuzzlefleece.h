@@ -268,12 +268,13 @@ nuzzlefleece_answer nuzzlefleece_binding_pairs(const nuzzlefleece_action *record
 
 /*
  * Follows the house as it works: one event of a job of the offered plan, after events that gave the words handed in. Before any event both
- * words are 0; after each call the screen's two words are handed to the next. A job of the plan may start once, when the first job of every
- * binding pair with it as second has finished, and may finish once, after it has started; facts change at finishes alone, which delete, then
- * add. The screen has the words with the event, the facts then, and the jobs that may start then. They are the same whatever the order of
- * the events was; a job that may start finds its conditions, and while a job of the plan has not finished some event is allowed. Releases,
- * starts and the rule play no part in that, beyond the pairs. Refusals 3 to 9 and 20, then 11 to 14 and 21 as in nuzzlefleece_check_plan,
- * then 19, for words that no allowed events give before an event that is not allowed after events that give them.
+ * words are 0, and the jobs of the plan that are second in no binding pair may start; after each call the screen's two words are handed to
+ * the next. A job of the plan may start once, when the first job of every binding pair with it as second has finished, and may finish once,
+ * after it has started; facts change at finishes alone, which delete, then add. The screen has the words with the event, the facts then, and
+ * the jobs that may start then. They are the same whatever the order of the events was; a job that may start finds its conditions, and while
+ * a job of the plan has not finished some event is allowed. Releases, starts and the rule play no part in that, beyond the pairs. Refusals 3
+ * to 9 and 20, then 11 to 14 and 21 as in nuzzlefleece_check_plan, then 19, for words that no allowed events give before an event that is
+ * not allowed after events that give them.
  */
 nuzzlefleece_screen nuzzlefleece_follow(const nuzzlefleece_action *records, size_t lent, nuzzlefleece_watch watch,
     const uint16_t *starts, size_t starts_lent);

@@ -64,11 +64,11 @@ unfolding inPlan
 freed-is P s en w before b d j = decides-test (freed P s en j) (d j) there back
   where
     there : (j < P .count) × (T (startIn (s j)) × Covers en (before j)) → T (freed P s en j)
-    there (l, (i, c)) = freed-of P s 0 en j (record { below = l; chosen = i })
+    there (l, (i, c)) = freed-of P s en j (record { below = l; chosen = i })
         (λ a m x. c a (subst T (sym (b j l a)) (and-of (ltb a (P .count)) _ (lt→ltb a (P .count) (m .below)) x)))
 
     back : T (freed P s en j) → (j < P .count) × (T (startIn (s j)) × Covers en (before j))
-    back x = let f = freed-at P s 0 en j x in (
+    back x = let f = freed-at P s en j x in (
       f .0 .below,
       (
         f .0 .chosen,
@@ -102,10 +102,10 @@ unfolding canCome
 come-below P s st en free k j i f x = ⊎-elim first second (T? (eqb k 0))
   where
     first : T (eqb k 0) → j < P .count
-    first z = freed-at P s 0 en j (subst T (f j) (and-l (has free j) _ (subst T (chosen (eqb k 0) _ _ z) x))) .0 .below
+    first z = freed-at P s en j (subst T (f j) (and-l (has free j) _ (subst T (chosen (eqb k 0) _ _ z) x))) .0 .below
 
     second : (T (eqb k 0) → ⊥) → j < P .count
-    second n = freed-at P s 0 en j (i .free j (and-l (has st j) _ (and-r (eqb k 1) _ (subst T (unchosen (eqb k 0) _ _ n) x)))) .0 .below
+    second n = freed-at P s en j (i .free j (and-l (has st j) _ (and-r (eqb k 1) _ (subst T (unchosen (eqb k 0) _ _ n) x)))) .0 .below
 
 -- the facts of starts that agree with the finished jobs' are the facts now
 pub facts-of : (P : Problem) (z s : Plan) (bound w : ℕ) → ((j : ℕ) → j < P .count → z j ≡ s j) → Word (λ p. holds P z p bound) w → Word (λ p. holds P s p bound) w

@@ -1,8 +1,8 @@
 -- The answer to one event: how the tests on the words give it, that it is one, what is never allowed, and that some event is while a job is left.
 -- Assumes nothing.
 use mathlib.Core.Path.{_≡_, refl, sym, _∙_, ap, subst}
-use mathlib.Core.Logic.{_⊎_, inl, inr, ⊎-elim}
-use mathlib.Core.Bool.{not, _&&_}
+use mathlib.Core.Logic.{_⊎_, inl, inr, _↔_, ⊎-elim}
+use mathlib.Core.Bool.{false, not, _&&_, _||_}
 use mathlib.Core.List.{[], _∷_, List·Memᴰ·head, List·Memᴰ·not-nil}
 use Prim.Native.Nat.{ℕ, zero, suc, _<_, _≤_, _^_}
 use native.Mathlib.Omega.{arith}
@@ -167,6 +167,10 @@ module _ (P : Problem) (s : Plan) (h : Log) (al : Allowed P s h) (k j : ℕ) whe
 
 -- ── some event is allowed while a job is left ──
 
+-- a word to which nothing is added
+as-was : (w : ℕ) → Word (λ i. has w i || false) w
+as-was w i = same _ _ (or-l (has w i) _) (λ t. ⊎-elim (λ y. y) (λ y. absurd y) (or-cases (has w i) _ t))
+
 module _ (P : Problem) (s : Plan) where
   -- before any event the words are 0
   pub none-yet : WordsOf P s [] 0 0
@@ -176,17 +180,24 @@ module _ (P : Problem) (s : Plan) where
     finishes = λ j. (λ t. absurd (has-zero j t), λ l. absurd (List·Memᴰ·not-nil l));
   }
 
+  -- and a job of the plan may start exactly where no job binds it
+  pub at-first : (j : ℕ) → MayStart P s [] j ↔ (In P s j × ((a : ℕ) → In P s a → T (binds P s a j) → ⊥))
+  at-first j = (
+    λ m. (m .there, λ a i b. List·Memᴰ·not-nil (m .free a i b)),
+    λ x. record { there = x .0; once = λ l. List·Memᴰ·not-nil l; free = λ a i b. absurd (x .1 a i b) },
+  )
+
   -- every allowed log has its words
   pub words-exist : (h : Log) → Allowed P s h → (st en : ℕ) × WordsOf P s h st en
   words-exist [] al = (0, 0, none-yet)
   words-exist (began j ∷ h) (m, al) = go (words-exist h al)
     where
       go : ((st en : ℕ) × WordsOf P s h st en) → (st en : ℕ) × WordsOf P s (began j ∷ h) st en
-      go (st, en, w) = (bitOr st (2 ^ j), en, words-after P s h st en 0 j (bitOr st (2 ^ j)) en w (began j, inl (refl, refl), (m, al)) (word-with st j, λ i. same _ _ (or-l (has en i) _) (λ t. ⊎-elim (λ y. y) (λ y. absurd y) (or-cases (has en i) _ t))))
+      go (st, en, w) = (bitOr st (2 ^ j), en, words-after P s h st en 0 j (bitOr st (2 ^ j)) en w (began j, inl (refl, refl), (m, al)) (word-with st j, as-was en))
   words-exist (finished j ∷ h) (m, al) = go (words-exist h al)
     where
       go : ((st en : ℕ) × WordsOf P s h st en) → (st en : ℕ) × WordsOf P s (finished j ∷ h) st en
-      go (st, en, w) = (st, bitOr en (2 ^ j), words-after P s h st en 1 j st (bitOr en (2 ^ j)) w (finished j, inr (refl, refl), (m, al)) (λ i. same _ _ (or-l (has st i) _) (λ t. ⊎-elim (λ y. y) (λ y. absurd y) (or-cases (has st i) _ t)), word-with en j))
+      go (st, en, w) = (st, bitOr en (2 ^ j), words-after P s h st en 1 j st (bitOr en (2 ^ j)) w (finished j, inr (refl, refl), (m, al)) (as-was st, word-with en j))
 
   module _ (ok : InOrder P) (h : Log) (st en : ℕ) (w : WordsOf P s h st en) where
     -- the job has started, or is free to, or stillBound for one that starts before it
@@ -195,7 +206,7 @@ module _ (P : Problem) (s : Plan) where
     some-come (suc t) j i n l = pick (T? (has st j)) (T? (stillBound P s en j)) (some-come t)
       where
         free-of : (T (stillBound P s en j) → ⊥) → T (freed P s en j)
-        free-of y = freed-of P s st en j i (λ a k b. certain (has en a) (λ m. y (bound-for P s st en j a k b m)))
+        free-of y = freed-of P s en j i (λ a k b. certain (has en a) (λ m. y (bound-for P s en j a k b m)))
 
         pick : T (has st j) ⊎ (T (has st j) → ⊥) → T (stillBound P s en j) ⊎ (T (stillBound P s en j) → ⊥)
             → ((a : ℕ) → In P s a → (T (has en a) → ⊥) → s a < t → (k i : ℕ) × MayCome P s h k i) → (k i : ℕ) × MayCome P s h k i
@@ -206,7 +217,7 @@ module _ (P : Problem) (s : Plan) where
           (began j, inl (refl, refl), (may-start P s st en h w j .0 (and-of (freed P s en j) _ (free-of y) (not-T (has st j) x)), w .allowed)),
         )
         pick (inr x) (inl y) r =
-            let b = bound-at P s st en j (i .below) y in
+            let b = bound-at P s en j (i .below) y in
             r (b .0) (b .1) (b .3) (omega (arith, binds-at P s (b .0) j (b .1 .below) (i .below) (b .2) .order, ok .long (b .0) (b .1 .below)))
 
     -- while a job of the plan has not finished, some event is allowed

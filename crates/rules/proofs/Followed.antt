@@ -68,7 +68,7 @@ module _ (st en : ℕ) where
 
 -- ── which words allowed events give ──
 
-module _ (P : Problem) (s : Plan) (st en : ℕ) where
+module _ (P : Problem) (s : Plan) (en : ℕ) where
   pub bound-at : (j : ℕ) → j < P .count → T (stillBound P s en j) → (a : ℕ) × In P s a × T (binds P s a j) × (T (has en a) → ⊥)
   unfolding stillBound
   bound-at j l x =
@@ -94,6 +94,7 @@ module _ (P : Problem) (s : Plan) (st en : ℕ) where
   freed-of j i f = and-of (ltb j (P .count)) _ (lt→ltb j (P .count) (i .below)) (and-of (inPlan s j) _ (i .chosen)
       (not-T (stillBound P s en j) (λ x. let y = bound-at j (i .below) x in y .3 (f (y .0) (y .1) (y .2)))))
 
+module _ (P : Problem) (s : Plan) (st en : ℕ) where
   -- an allowed log cut down to words in step is allowed
   kept-allowed : InStep P s st en → (h : Log) → Allowed P s h → Allowed P s (kept st en h)
   unfolding kept keepIf picks
@@ -106,7 +107,7 @@ module _ (P : Problem) (s : Plan) (st en : ℕ) where
         record {
           there = m .there;
           once = λ l. m .once (kept-at st en (began j) h l .0);
-          free = λ a i b. kept-of st en (finished a) h (m .free a i b) (freed-at j (f .free j (t tt)) .1 a i b);
+          free = λ a i b. kept-of st en (finished a) h (m .free a i b) (freed-at P s en j (f .free j (t tt)) .1 a i b);
         },
         r,
       )
@@ -125,7 +126,7 @@ module _ (P : Problem) (s : Plan) (st en : ℕ) where
   reached-in-step : (h : Log) → WordsOf P s h st en → InStep P s st en
   reached-in-step h w = record {
     begun = λ j t. w .starts j .1 (has-begun P s h (w .allowed) j (w .finishes j .0 t));
-    free = λ j t. freed-of j (is-in P s h (w .allowed) j (w .starts j .0 t)) (λ a i b. w .finishes a .1 (has-ended P s h (w .allowed) a j i b (w .starts j .0 t)));
+    free = λ j t. freed-of P s en j (is-in P s h (w .allowed) j (w .starts j .0 t)) (λ a i b. w .finishes a .1 (has-ended P s h (w .allowed) a j i b (w .starts j .0 t)));
   }
 
   -- the plan's jobs one by one, cut down to the words
@@ -144,7 +145,7 @@ module _ (P : Problem) (s : Plan) (st en : ℕ) where
       o = one-by-one P ok bound s v
 
       inside : (j : ℕ) → T (has st j) → In P s j
-      inside j t = freed-at j (f .free j t) .0
+      inside j t = freed-at P s en j (f .free j t) .0
 
   -- the test on words passes exactly those that some allowed events give
   pub in-step : InOrder P → (bound : ℕ) → Valid P bound s → InStep P s st en ↔ ((h : Log) × WordsOf P s h st en)
@@ -156,14 +157,14 @@ module _ (P : Problem) (s : Plan) (st en : ℕ) (h : Log) (w : WordsOf P s h st 
   pub may-start : (j : ℕ) → T (freed P s en j && not (has st j)) ↔ MayStart P s h j
   may-start j = (
     λ x. (
-        let f = freed-at P s st en j (and-l (freed P s en j) _ x) in
+        let f = freed-at P s en j (and-l (freed P s en j) _ x) in
         record {
           there = f .0;
           once = λ l. T-not (has st j) (and-r (freed P s en j) _ x) (w .starts j .1 l);
           free = λ a i b. w .finishes a .0 (f .1 a i b);
         }
         ),
-    λ m. and-of (freed P s en j) _ (freed-of P s st en j (m .there) (λ a i b. w .finishes a .1 (m .free a i b))) (not-T (has st j) (λ t. m .once (w .starts j .0 t))),
+    λ m. and-of (freed P s en j) _ (freed-of P s en j (m .there) (λ a i b. w .finishes a .1 (m .free a i b))) (not-T (has st j) (λ t. m .once (w .starts j .0 t))),
   )
 
   may-finish : (j : ℕ) → T (has st j && not (has en j)) ↔ MayFinish h j
