@@ -143,13 +143,12 @@ fn binders(l: Loaded, q: Ask, s: &[u16], f: Before, b: usize) -> u64
     w
 }
 
-// Of each job, the jobs that bind it.
-pub fn all_binders(l: Loaded, q: Ask, s: &[u16]) -> Before
-    requires { ⌜ Given q (now s) ⌝ }
+// Of each job, the jobs that bind it, from those that feed it.
+pub fn all_binders(l: Loaded, q: Ask, s: &[u16], f: Before) -> Before
+    requires { ⌜ Given q (now s) × FeedersOf (problem l q) (starts (now s)) f ⌝ }
     ensures { λ r. ⌜ BindersOf (problem l q) (starts (now (s .entry))) r ⌝ }
 {
     let n = q.jobs;
-    let f = all_feeders(l, q, s);
     let mut of = [0u64; 24];
     for b in 0..n {
         of[b] = binders(l, q, s, f, b);

@@ -164,7 +164,8 @@ pub fn follow(l: Loaded, w: Watch, starts: &[u16]) -> Screen
     if said.number != 0 {
         return dark(w, said);
     }
-    let before = bindings::all_binders(l, q, starts);
+    let feeders = bindings::all_feeders(l, q, starts);
+    let before = bindings::all_binders(l, q, starts, feeders);
     let free = free_jobs(l, q, starts, before, w.finished);
     if !in_step(w.started, w.finished, free) {
         return dark(w, tables::refuse(19, 65535, 0));

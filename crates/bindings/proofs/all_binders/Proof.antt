@@ -11,14 +11,14 @@ use Rattle.bindings.proofs.all_binders.Statement.{statement}
 use Rattle.bindings.proofs.all_binders.Tie as tie
 
 abbrev Inv-loop : tie.InvT-loop
-Inv-loop l q s n f of₀ b₀ of b = (b ≤ n) × (length of ≡ 24) × ((k : ℕ) → k < b → Binders (problem l q) (starts s) k (getD of k 0))
+Inv-loop l q s f n of₀ b₀ of b = (b ≤ n) × (length of ≡ 24) × ((k : ℕ) → k < b → Binders (problem l q) (starts s) k (getD of k 0))
 
 abbrev μ-loop : tie.MeasureT-loop
-μ-loop l q s n f of₀ b₀ of b = n - b
+μ-loop l q s f n of₀ b₀ of b = n - b
 
 loop-again : tie.Need-loop-again Inv-loop μ-loop
 loop-again c =
-    let a = c .before .before .before .before .before .args in
+    let a = c .before .before .before .before .args in
     let r = c .before .before .loop in
     (omega arith, length-set (r .of) (r .b) _ ∙ r .inv .1, set-more (Binders (problem (a .l) (a .q)) (starts (a .s .now))) (r .of) (r .b) _ 0 (omega arith) (r .inv .2) (c .binders .ensures))
 
@@ -28,7 +28,6 @@ all-binders-spec =
     (tie.spec
     Inv-loop
     μ-loop
-    (λ c κs. search needs)
     (λ c. (omega arith, refl, λ k h. absurd (omega arith)))
     (λ c κs. search needs)
     (λ c. search needs)

@@ -18,7 +18,7 @@ abbrev from1 : tie.Else1 → tie.Start
 from1 c = c .before .before .before .before .before
 
 abbrev from2 : tie.Else2 → tie.Else1
-from2 c = c .before .before .before .before
+from2 c = c .before .before .before .before .before
 
 -- ---- what each check says that passed
 
@@ -40,7 +40,7 @@ returns c =
 
 returns-2 : tie.Need-returns-2
 returns-2 c =
-    let else1 = c .before .before .before .before .before .before in
+    let else1 = c .before .before .before .before .before .before .before in
     let a = from1 else1 .args in
     subst (Following (a .l) (a .w) (a .starts .now)) (sym (c .dark2 .ensures))
     (refused-words (a .l) (a .w) (a .starts .now) (else1 .before .before .plan-fault .ensures) (else1 .if1 .left)
@@ -63,7 +63,7 @@ after-event-requires c κs =
     let a = from1 else1 .args in
     let k = given else1 in
     let below = come-below (problem (a .l) (a .w .ask)) (starts (a .starts .now)) (a .w .started) (a .w .finished) _ (a .w .event) (a .w .job) (step else2) (else2 .before .before .free-jobs .ensures) (test-yes (c .before .may-come .ensures) (not-false _ (c .if3 .left))) in
-    (k, omega (arith, below, k .0), search needs)
+    (k, omega (arith, below, k .0), else2 .before .before .before .all-binders .ensures)
 
 returns-4 : tie.Need-returns-4
 returns-4 c =
@@ -81,7 +81,8 @@ follow-spec =
     (λ c κs. search needs)
     returns
     (λ c κs. given c)
-    (λ c κs. (given (c .before), search needs))
+    (λ c κs. (given (c .before), c .all-feeders .ensures))
+    (λ c κs. (given (c .before .before), c .all-binders .ensures))
     (λ c κs. search needs)
     (λ c κs. search needs)
     (λ c κs. search needs)
