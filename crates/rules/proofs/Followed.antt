@@ -1,4 +1,4 @@
--- Following the house: which words allowed events give, the facts and the free jobs from the words alone, one answer to an event, and an event while a job is left.
+-- Following the house: which words allowed events give; from the words alone, the facts, the free jobs and the events that may come; the words after one.
 -- Assumes nothing.
 use mathlib.Core.Path.{_≡_, refl, sym, _∙_, ap, subst}
 use mathlib.Core.Logic.{_⊎_, inl, inr, _↔_, ⊎-elim}
