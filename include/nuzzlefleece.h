@@ -22,9 +22,9 @@
 extern "C" {
 #endif
 
-/* The version that this header describes, 10,000 times the first number, 100 times the second, and the third: 1.6.0.
+/* The version that this header describes, 10,000 times the first number, 100 times the second, and the third: 1.7.0.
  * nuzzlefleece_version() returns that of the library linked; where the two differ, header and library are not of one build. */
-#define NUZZLEFLEECE_VERSION 10600
+#define NUZZLEFLEECE_VERSION 10700
 
 /* Sizes and limits. A fact is a number below the atom count; a word of facts has fact 0 in its lowest bit. */
 enum {
@@ -46,7 +46,7 @@ enum {
     NUZZLEFLEECE_NO_CONDITION = 255,
     NUZZLEFLEECE_PAIRS_BYTES = 552,     /* lent for binding pairs: at most 276, two bytes each */
     NUZZLEFLEECE_PAGE_BYTES = 8192,     /* lent for the text of a page */
-    NUZZLEFLEECE_NO_FACT = 64,          /* the fact of two jobs that do not clash */
+    NUZZLEFLEECE_NO_FACT = 64,          /* the fact of two jobs that do not clash, and of a reason that names none */
     NUZZLEFLEECE_NO_LOG = 65535         /* the place of refusal 19 for words that no allowed events give */
 };
 
@@ -61,6 +61,14 @@ enum {
     NUZZLEFLEECE_CLASH_NONE = 0,
     NUZZLEFLEECE_CLASH_CONDITION = 1,   /* one deletes a condition of the other */
     NUZZLEFLEECE_CLASH_ADDITION = 2     /* no condition, but one deletes an addition of the other */
+};
+
+/* Why there is no plan. */
+enum {
+    NUZZLEFLEECE_WHY_REFUSED = 0,       /* the call is refused and gives no reason */
+    NUZZLEFLEECE_WHY_NEVER = 1,         /* a goal is never reachable */
+    NUZZLEFLEECE_WHY_TOO_DEAR = 2,      /* every goal is reachable, and one costs more than the bound */
+    NUZZLEFLEECE_WHY_NEITHER = 3        /* no goal costs more than the bound */
 };
 
 /* Refusals, checked in the order of their numbers, but 20 between 6 and 7, 21 between 11 and 12, and in tidying 3 between 1 and 2.
@@ -91,7 +99,8 @@ enum {
     NUZZLEFLEECE_NOT_ALLOWED = 19,       /* following; place: NUZZLEFLEECE_NO_LOG for words that no allowed events give, else the job of an event that
                                           * is not allowed after events that give them */
     NUZZLEFLEECE_RELEASE_WRONG = 20,     /* over 2,880; checked after 6 and before 7; place: lowest job */
-    NUZZLEFLEECE_BEFORE_RELEASE = 21     /* offered plan: a job starts before its release; checked after 11 and before 12; place: lowest job */
+    NUZZLEFLEECE_BEFORE_RELEASE = 21,    /* offered plan: a job starts before its release; checked after 11 and before 12; place: lowest job */
+    NUZZLEFLEECE_NOT_IN_SET = 27         /* why a job starts when it does: it is not in the set; place: the job */
 };
 
 /* What a refusal says, in words; the place and the second number are said by the comments above. */
@@ -119,8 +128,10 @@ static inline const char *nuzzlefleece_words(unsigned number) {
         "following: words that no allowed events give, or an event that is not allowed",
         "a release over 2,880",
         "offered plan: a job starts before its release",
+        NULL, NULL, NULL, NULL, NULL, /* 22 to 26: no such refusals */
+        "why a job starts: it is not in the set",
     };
-    return number < sizeof words / sizeof words[0] ? words[number] : "no such refusal";
+    return number < sizeof words / sizeof words[0] && words[number] != NULL ? words[number] : "no such refusal";
 }
 
 /* A job: three words of facts, the quarter hours it takes and its release. The bytes behind are reserved, to be zero: a later version
@@ -134,7 +145,7 @@ typedef struct nuzzlefleece_action {
     uint8_t reserved[4];
 } nuzzlefleece_action;
 
-/* The numbers of a call; set and pairs are looked at by settling alone, the bound by all but the estimates. */
+/* The numbers of a call; set and pairs are looked at by settling and by nuzzlefleece_why_start alone, the bound by all but the estimates. */
 typedef struct nuzzlefleece_ask {
     size_t jobs;      /* how many of the lent records are jobs, numbered from 0 */
     uint8_t atoms;    /* the atom count, 1 to 64, and under rule 2 NUZZLEFLEECE_RULE_2 more */
@@ -177,6 +188,19 @@ typedef struct nuzzlefleece_screen {
     uint64_t may_start; /* the jobs that may start, one bit each */
 } nuzzlefleece_screen;
 
+/* What nuzzlefleece_why_start is asked: the numbers of a settling, and the job whose start is to be explained. */
+typedef struct nuzzlefleece_question {
+    nuzzlefleece_ask ask;
+    uint8_t job;
+} nuzzlefleece_question;
+
+/* Why there is no plan, and which goal is the cause. */
+typedef struct nuzzlefleece_reason {
+    nuzzlefleece_answer answer;
+    uint8_t kind; /* NUZZLEFLEECE_WHY_NEVER, NUZZLEFLEECE_WHY_TOO_DEAR or NUZZLEFLEECE_WHY_NEITHER; NUZZLEFLEECE_WHY_REFUSED on refusal */
+    uint8_t fact; /* the lowest goal of that kind; NUZZLEFLEECE_NO_FACT for neither and on refusal */
+} nuzzlefleece_reason;
+
 /* What a save is made of beside the records. */
 typedef struct nuzzlefleece_save {
     nuzzlefleece_ask ask;
@@ -208,7 +232,8 @@ typedef char nuzzlefleece_layouts[sizeof(nuzzlefleece_action) == 32 && offsetof(
     && sizeof(nuzzlefleece_ask) == 56 && sizeof(nuzzlefleece_answer) == 8 && offsetof(nuzzlefleece_answer, second) == 1
     && offsetof(nuzzlefleece_answer, place) == 2 && sizeof(nuzzlefleece_clash) == 2 && sizeof(nuzzlefleece_save) == 64
     && sizeof(nuzzlefleece_watch) == 80 && offsetof(nuzzlefleece_watch, job) == 73 && sizeof(nuzzlefleece_screen) == 40
-    && sizeof(nuzzlefleece_read_answer) == 64 && sizeof(nuzzlefleece_opening) == 16 && offsetof(nuzzlefleece_opening, second) == 1
+    && sizeof(nuzzlefleece_question) == 64 && offsetof(nuzzlefleece_question, job) == 56 && sizeof(nuzzlefleece_reason) == 12
+    && offsetof(nuzzlefleece_reason, kind) == 8 && offsetof(nuzzlefleece_reason, fact) == 9 && sizeof(nuzzlefleece_read_answer) == 64 && sizeof(nuzzlefleece_opening) == 16 && offsetof(nuzzlefleece_opening, second) == 1
     && offsetof(nuzzlefleece_opening, place) == 2 ? 1 : -1];
 
 /* The version of the library. */
@@ -295,6 +320,25 @@ nuzzlefleece_answer nuzzlefleece_earliest(const nuzzlefleece_action *records, si
  */
 nuzzlefleece_answer nuzzlefleece_settle(const nuzzlefleece_action *records, size_t lent, nuzzlefleece_ask ask,
     const uint8_t *pairs, size_t pairs_lent, uint16_t *starts, size_t starts_lent);
+
+/*
+ * Why a job starts when it does, in the starts of nuzzlefleece_settle for the same records, ask and pairs: fills one byte a job with a
+ * chain of jobs that ends with question.job, the first job first, and the value is their count, 1 to the job count. The first job starts
+ * at its release; each other job starts when the one before it has finished, under rule 2 a quarter hour later, and the two are a pair
+ * asked for. Seen from the end, a job that starts at its release ends the chain, and before any other stands the lowest job that fits. Each
+ * job of the set has just one such chain. One byte a job is to be lent. Refusals 3 to 9, 20, 15 and 16 as in nuzzlefleece_settle, then 27.
+ */
+nuzzlefleece_answer nuzzlefleece_why_start(const nuzzlefleece_action *records, size_t lent, nuzzlefleece_question question,
+    const uint8_t *pairs, size_t pairs_lent, uint8_t *chain, size_t chain_lent);
+
+/*
+ * Why there is no plan within the bound, where the earliest estimates tell: the lowest goal that is never reachable; if every goal is,
+ * the lowest whose cost is above the bound; else neither. A goal costs 0 if it is open, else the least of estimate plus duration over the
+ * jobs that add it, with no gap under rule 2. A goal that is named leaves no valid plan within the bound, and one that is never reachable
+ * leaves none within any bound; where there is a plan neither is said, but neither does not mean that there is one. Nothing is planned.
+ * Refusals 3 to 9 and 20.
+ */
+nuzzlefleece_reason nuzzlefleece_why_no_plan(const nuzzlefleece_action *records, size_t lent, nuzzlefleece_ask ask);
 
 /*
  * Reads the last save of a job file: fills one record a job and gives the file's numbers, the atom count as it stands there, with the

@@ -110,7 +110,7 @@ static void print_with(nuzzlefleece_answer answer, const void *lent, size_t byte
 
 static nuzzlefleece_ask ask(void) {
     nuzzlefleece_ask q = {.jobs = head[1], .atoms = (uint8_t)head[2], .opening = head[3], .goals = head[4], .bound = (uint16_t)head[5]};
-    if (head[0] == 7) {
+    if (head[0] == 7 || head[0] == 14) {
         q.set = head[6];
         q.pairs = head[7];
     }
@@ -178,6 +178,22 @@ static void answer_following(void) {
         (unsigned long)screen.may_start);
 }
 
+/* Call 14: the chain fills bytes. */
+static void answer_start(void) {
+    nuzzlefleece_question question = {.ask = ask(), .job = (uint8_t)head[13]};
+    nuzzlefleece_answer answer;
+    memset(bytes_out, (int)(head[11] & 255), sizeof bytes_out);
+    answer = nuzzlefleece_why_start(records, head[8], question, table, head[9], bytes_out, head[10]);
+    print_with(answer, bytes_out, head[10]);
+}
+
+/* Call 15: the answer, then the reason. */
+static void answer_no_plan(void) {
+    nuzzlefleece_reason reason = nuzzlefleece_why_no_plan(records, head[8], ask());
+    print_answer(reason.answer);
+    printf(" %u %u", (unsigned)reason.kind, (unsigned)reason.fact);
+}
+
 static void answer_readings(void) {
     static int16_t levels[MOST_OUT];
     nuzzlefleece_reading reading;
@@ -228,6 +244,12 @@ static void answer_call(void) {
         break;
     case 13:
         answer_following();
+        break;
+    case 14:
+        answer_start();
+        break;
+    case 15:
+        answer_no_plan();
         break;
     default:
         printf("unknown");

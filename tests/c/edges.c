@@ -1,7 +1,7 @@
 /*
  * Calls every function of the C library on the scope's example P3, with warm released later, under rule 2, on jobs that clash, on events as
- * they come, on full files, with nothing lent and with bad input, and holds each answer to the scope's numbers. Last line: 'N passed, M
- * failed'; any failure gives status 1.
+ * they come, for reasons, on full files, with nothing lent and with bad input, and holds each answer to the scope's numbers. Last line: 'N
+ * passed, M failed'; any failure gives status 1.
  */
 #include <stdio.h>
 #include <string.h>
@@ -66,6 +66,14 @@ static void says(const char *what, nuzzlefleece_answer answer, unsigned number, 
 /* The plan is refused with 12 at this place, over this fact. */
 static void overlaps(const char *what, nuzzlefleece_answer answer, unsigned place, unsigned fact) {
     says_all(what, answer, NUZZLEFLEECE_OVERLAP, fact, place, 0);
+}
+
+static int all_are(const uint8_t *bytes, size_t count, uint8_t byte) {
+    size_t i = 0;
+    while (i < count && bytes[i] == byte) {
+        i++;
+    }
+    return i == count;
 }
 
 /* P3 and P4, and what is lent behind the answer stays as it was. */
@@ -479,6 +487,216 @@ static void refuses_wrong_plans(void) {
     refuses("65 atoms", watch, starts, 4, NUZZLEFLEECE_ATOMS_WRONG, 0, 0);
 }
 
+/* P3's numbers within a bound, with all four jobs to settle by the binding pairs. */
+static nuzzlefleece_ask settling_ask(uint16_t bound) {
+    nuzzlefleece_ask ask = p3_ask;
+    ask.bound = bound;
+    ask.set = 15;
+    ask.pairs = 4;
+    return ask;
+}
+
+/* The chain of one of four jobs by the binding pairs of P3, so many jobs long; all behind it stays as it was. */
+static void explains(const char *what, const nuzzlefleece_action *jobs, nuzzlefleece_ask ask, uint8_t job, const uint8_t *wanted,
+    unsigned count) {
+    uint8_t chain[6];
+    nuzzlefleece_question question = {ask, job};
+    memset(chain, 99, sizeof chain);
+    says(what, nuzzlefleece_why_start(jobs, 4, question, p3_pairs, 8, chain, 4), 0, 0, count);
+    expect(what, memcmp(chain, wanted, count) == 0 && all_are(chain + count, sizeof chain - count, 99));
+}
+
+/* P3 by either rule, and the late crate: warm starts at its release. */
+static void explains_p3(void) {
+    static const uint8_t drench[] = {0, 3, 1}, warm[] = {0, 2};
+    nuzzlefleece_ask asks[] = {settling_ask(12), settling_ask(13)};
+    asks[1].atoms += NUZZLEFLEECE_RULE_2;
+    for (int rule = 0; rule < 2; rule++) {
+        explains("unpack at its release", p3, asks[rule], 0, drench, 1);
+        explains("drench behind wash behind unpack", p3, asks[rule], 1, drench, 3);
+        explains("warm behind unpack", p3, asks[rule], 2, warm, 2);
+        explains("wash behind unpack", p3, asks[rule], 3, drench, 2);
+    }
+    explains("warm at its release", late, settling_ask(14), 2, warm + 1, 1);
+    explains("drench beside the late crate", late, settling_ask(14), 1, drench, 3);
+}
+
+/* Drench released a quarter hour before wash is over, just then, and later: from then on no other job is the reason. */
+static void ends_chains_at_releases(void) {
+    static const uint8_t behind[] = {0, 3, 1}, alone[] = {1};
+    nuzzlefleece_action jobs[4];
+    nuzzlefleece_ask ask = settling_ask(20);
+    memcpy(jobs, p3, sizeof jobs);
+    for (uint16_t over = 7; over <= 9; over += 2) {
+        jobs[1].release = over - 1;
+        explains("released before wash is over", jobs, ask, 1, behind, 3);
+        jobs[1].release = over;
+        explains("released when wash is over", jobs, ask, 1, alone, 1);
+        jobs[1].release = over + 1;
+        explains("released later", jobs, ask, 1, alone, 1);
+        ask.atoms += NUZZLEFLEECE_RULE_2;
+    }
+}
+
+/* The reason why a job of P3 starts is refused, and nothing is filled. */
+static void refuses_start(const char *what, nuzzlefleece_ask ask, uint8_t job, const uint8_t *pairs, unsigned number, unsigned place) {
+    uint8_t chain[4] = {99, 99, 99, 99};
+    nuzzlefleece_question question = {ask, job};
+    says(what, nuzzlefleece_why_start(p3, 4, question, pairs, 8, chain, 4), number, place, 0);
+    expect(what, all_are(chain, sizeof chain, 99));
+}
+
+/* The job is looked for in the set last of all. */
+static void refuses_starts(void) {
+    static const uint8_t circle[] = {0, 1, 1, 0, 0, 3, 3, 0}, itself[] = {0, 1, 0, 3, 1, 1, 0, 1}, outside[] = {0, 1, 0, 2, 0, 3, 2, 2};
+    static const uint8_t strange[] = {2, 4, 23, 24, 63, 64, 66, 128, 255};
+    nuzzlefleece_ask ask = settling_ask(9);
+    ask.set = 11;
+    ask.pairs = 1;
+    for (size_t i = 0; i < sizeof strange; i++) {
+        refuses_start("a job outside the set", ask, strange[i], p3_pairs, NUZZLEFLEECE_NOT_IN_SET, strange[i]);
+    }
+    ask.pairs = 3;
+    refuses_start("a circle before the job", ask, 2, circle, NUZZLEFLEECE_NO_STARTS, 0);
+    refuses_start("a job before itself", ask, 3, itself, NUZZLEFLEECE_NO_STARTS, 0);
+    refuses_start("a pair outside the set before the job", ask, 2, outside, NUZZLEFLEECE_PAIRS_WRONG, 1);
+    ask.set = 11 | FACT(4);
+    refuses_start("no such job in the set", ask, 4, outside, NUZZLEFLEECE_PAIRS_WRONG, 601);
+    ask.set = 0;
+    ask.pairs = 0;
+    refuses_start("nothing in the set", ask, 0, p3_pairs, NUZZLEFLEECE_NOT_IN_SET, 0);
+    ask.bound = 2881;
+    refuses_start("the bound before the job", ask, 0, p3_pairs, NUZZLEFLEECE_BOUND_WRONG, 0);
+    refuses_start("too little time", settling_ask(11), 255, p3_pairs, NUZZLEFLEECE_NO_STARTS, 0);
+}
+
+/* One byte a job and two a pair are enough, and one less of either is not; nor is a record less. */
+static void takes_exact_lengths(void) {
+    uint8_t chain[4] = {99, 99, 99, 99};
+    nuzzlefleece_question question = {settling_ask(12), 1};
+    says("just enough", nuzzlefleece_why_start(p3, 4, question, p3_pairs, 8, chain, 4), 0, 0, 3);
+    memset(chain, 99, sizeof chain);
+    says("three bytes for four jobs", nuzzlefleece_why_start(p3, 4, question, p3_pairs, 8, chain, 3), NUZZLEFLEECE_LENT_TOO_SHORT, 0, 0);
+    says("seven bytes for four pairs", nuzzlefleece_why_start(p3, 4, question, p3_pairs, 7, chain, 4), NUZZLEFLEECE_LENT_TOO_SHORT, 0, 0);
+    says("three records", nuzzlefleece_why_start(p3, 3, question, p3_pairs, 8, chain, 4), NUZZLEFLEECE_LENT_TOO_SHORT, 0, 0);
+    question.ask.pairs = ((size_t)-1) / 2 + 5;
+    says("more pairs than there are bytes", nuzzlefleece_why_start(p3, 4, question, p3_pairs, 8, chain, 4), NUZZLEFLEECE_LENT_TOO_SHORT, 0, 0);
+    question.ask.jobs = (size_t)-1;
+    says("more jobs than there are bytes", nuzzlefleece_why_start(p3, 4, question, p3_pairs, 8, chain, 4), NUZZLEFLEECE_LENT_TOO_SHORT, 0, 0);
+    expect("nothing filled", all_are(chain, sizeof chain, 99));
+}
+
+/* 24 jobs one behind the other, the last job first, by 600 pairs that are asked again and again: the chain has them all. */
+static void explains_full_tables(void) {
+    static uint8_t pairs[2 * 601], chain[26];
+    nuzzlefleece_action jobs[24];
+    nuzzlefleece_question question = {.ask = {.jobs = 24, .atoms = 1, .bound = 24 * 2 + 23, .set = FACT(24) - 1, .pairs = 600}};
+    int in_order = 1;
+    for (size_t i = 0; i < 24; i++) {
+        jobs[i] = of_facts(0, 1, 0);
+        jobs[i].duration = 2;
+    }
+    for (size_t pair = 0; pair <= 600; pair++) {
+        pairs[2 * pair] = (uint8_t)(23 - pair % 23);
+        pairs[2 * pair + 1] = (uint8_t)(22 - pair % 23);
+    }
+    for (int rule = 0; rule < 2; rule++) {
+        memset(chain, 99, sizeof chain);
+        says("600 pairs", nuzzlefleece_why_start(jobs, 24, question, pairs, 1200, chain, 24), 0, 0, 24);
+        for (size_t i = 0; i < 24; i++) {
+            in_order = in_order && chain[i] == 23 - i;
+        }
+        expect("all 24 jobs, and the bytes behind", in_order && all_are(chain + 24, 2, 99));
+        question.ask.atoms += NUZZLEFLEECE_RULE_2;
+    }
+    question.ask.atoms = 1;
+    question.ask.pairs = 601;
+    says("601 pairs", nuzzlefleece_why_start(jobs, 24, question, pairs, 1202, chain, 24), NUZZLEFLEECE_PAIRS_WRONG, 600, 0);
+}
+
+/* The answer to why there is no plan, and the reason in its two bytes. */
+static void reasons(const char *what, nuzzlefleece_reason reason, unsigned number, unsigned place, unsigned kind, unsigned fact) {
+    const uint8_t bytes[] = {(uint8_t)kind, (uint8_t)fact};
+    says(what, reason.answer, number, place, 0);
+    expect(what, reason.kind == kind && reason.fact == fact && memcmp((const uint8_t *)&reason + 8, bytes, sizeof bytes) == 0);
+}
+
+/* Why four jobs have no plan from P3's opening facts to these goals, the atom count with its mark. */
+static void says_why(const char *what, const nuzzlefleece_action *jobs, unsigned atoms, uint64_t goals, uint16_t bound, unsigned kind,
+    unsigned fact) {
+    nuzzlefleece_ask ask = p3_ask;
+    ask.atoms = (uint8_t)atoms;
+    ask.goals = goals;
+    ask.bound = bound;
+    reasons(what, nuzzlefleece_why_no_plan(jobs, 4, ask), 0, 0, kind, fact);
+}
+
+/* P2, P1, P6 and the late crate; by rule 2 all behind unpack costs a quarter hour more, and a goal sees a finish at once. */
+static void answers_no_plan(void) {
+    const unsigned ruled = 5 + NUZZLEFLEECE_RULE_2, never = NUZZLEFLEECE_WHY_NEVER, dear = NUZZLEFLEECE_WHY_TOO_DEAR;
+    const unsigned neither = NUZZLEFLEECE_WHY_NEITHER, none = NUZZLEFLEECE_NO_FACT;
+    const uint64_t two = FACT(2) | FACT(3);
+    says_why("P2", p3, 5, two, 11, dear, 3);
+    says_why("P1 has a plan", p3, 5, two, 12, neither, none);
+    says_why("P2 under rule 2", p3, ruled, two, 12, dear, 3);
+    says_why("P1 under rule 2", p3, ruled, two, 13, neither, none);
+    says_why("P6", p3, 5, FACT(0) | FACT(1), 2880, neither, none);
+    says_why("the late crate", late, 5, two, 13, dear, 3);
+    says_why("the late crate in time", late, 5, two, 14, neither, none);
+    says_why("unpack alone under rule 2", p3, ruled, FACT(1), 4, neither, none);
+    says_why("unpack alone, too short", p3, ruled, FACT(1), 3, dear, 1);
+    says_why("both too dear", p3, 5, FACT(3) | FACT(4), 6, dear, 3);
+    says_why("nothing wanted", p3, 5, 0, 0, neither, none);
+    says_why("an open goal", p3, 5, FACT(0), 0, neither, none);
+    says_why("a goal that nothing adds", p3, 64, FACT(63), 2880, never, 63);
+    says_why("never before too dear", p3, 64, two | FACT(9) | FACT(40), 0, never, 9);
+}
+
+/* The first and the last fact, never reachable and too dear. */
+static void names_edge_facts(void) {
+    nuzzlefleece_action jobs[] = {of_facts(0, FACT(0), 0), of_facts(FACT(7), FACT(63), 0)};
+    nuzzlefleece_ask ask = {.jobs = 2, .atoms = 64, .goals = FACT(0) | FACT(63)};
+    reasons("the last never, the first too dear", nuzzlefleece_why_no_plan(jobs, 2, ask), 0, 0, NUZZLEFLEECE_WHY_NEVER, 63);
+    ask.opening = FACT(7);
+    reasons("both too dear", nuzzlefleece_why_no_plan(jobs, 2, ask), 0, 0, NUZZLEFLEECE_WHY_TOO_DEAR, 0);
+    jobs[1].release = NUZZLEFLEECE_MOST_RELEASE;
+    ask.bound = NUZZLEFLEECE_MOST_BOUND;
+    reasons("the last too dear", nuzzlefleece_why_no_plan(jobs, 2, ask), 0, 0, NUZZLEFLEECE_WHY_TOO_DEAR, 63);
+    jobs[0].conditions = FACT(0);
+    reasons("the first never", nuzzlefleece_why_no_plan(jobs, 2, ask), 0, 0, NUZZLEFLEECE_WHY_NEVER, 0);
+}
+
+/* Every refusal of a table, each before those behind it: no kind and no fact. */
+static void refuses_reasons(void) {
+    nuzzlefleece_action jobs[25];
+    nuzzlefleece_ask ask = {.jobs = 26, .atoms = 65, .goals = FACT(5), .bound = 2881};
+    for (size_t i = 0; i < 25; i++) {
+        jobs[i] = of_facts(1, 2, 2);
+    }
+    jobs[9].duration = 0;
+    jobs[4].release = 2881;
+    jobs[7].conditions = FACT(6);
+    reasons("too few records", nuzzlefleece_why_no_plan(jobs, 25, ask), NUZZLEFLEECE_LENT_TOO_SHORT, 0, 0, 64);
+    ask.jobs = 25;
+    reasons("65 atoms", nuzzlefleece_why_no_plan(jobs, 25, ask), NUZZLEFLEECE_ATOMS_WRONG, 0, 0, 64);
+    ask.atoms = 5 + NUZZLEFLEECE_RULE_2;
+    reasons("25 jobs", nuzzlefleece_why_no_plan(jobs, 25, ask), NUZZLEFLEECE_TOO_MANY_JOBS, 0, 0, 64);
+    ask.jobs = 24;
+    reasons("no duration", nuzzlefleece_why_no_plan(jobs, 25, ask), NUZZLEFLEECE_DURATION_WRONG, 9, 0, 64);
+    jobs[9].duration = 1;
+    reasons("a release over 2,880", nuzzlefleece_why_no_plan(jobs, 25, ask), NUZZLEFLEECE_RELEASE_WRONG, 4, 0, 64);
+    jobs[4].release = 2880;
+    reasons("a fact of a job", nuzzlefleece_why_no_plan(jobs, 25, ask), NUZZLEFLEECE_FACT_WRONG, 7, 0, 64);
+    jobs[7].conditions = 1;
+    reasons("a goal", nuzzlefleece_why_no_plan(jobs, 25, ask), NUZZLEFLEECE_FACT_WRONG, 24, 0, 64);
+    ask.goals = 2;
+    reasons("adds and deletes", nuzzlefleece_why_no_plan(jobs, 25, ask), NUZZLEFLEECE_ADDS_AND_DELETES, 0, 0, 64);
+    ask.jobs = 0;
+    reasons("bound 2,881", nuzzlefleece_why_no_plan(jobs, 25, ask), NUZZLEFLEECE_BOUND_WRONG, 0, 0, 64);
+    ask.bound = 2880;
+    reasons("in order", nuzzlefleece_why_no_plan(jobs, 25, ask), 0, 0, NUZZLEFLEECE_WHY_NEVER, 1);
+}
+
 /* A save is read back, and its page is bench-plan's text. */
 static void answers_files(void) {
     static uint8_t file[200], text[NUZZLEFLEECE_PAGE_BYTES];
@@ -512,14 +730,6 @@ static size_t fill_buffer(uint8_t *buffer, size_t length) {
     }
     says("no more room in the file", answer, NUZZLEFLEECE_FILE_TOO_LONG, 0, 0);
     return save.used;
-}
-
-static int all_are(const uint8_t *bytes, size_t count, uint8_t byte) {
-    size_t i = 0;
-    while (i < count && bytes[i] == byte) {
-        i++;
-    }
-    return i == count;
 }
 
 /* A full file is tidied, written to again, and read as before; a second tidying changes nothing. */
@@ -622,6 +832,7 @@ static void takes_null(void) {
     nuzzlefleece_ask ask = {.atoms = 2, .opening = 1};
     nuzzlefleece_save save = {.ask = ask};
     nuzzlefleece_watch watch = {.ask = ask, .job = 9};
+    nuzzlefleece_question question = {.ask = ask, .job = 9};
     says("null: check plan", nuzzlefleece_check_plan(NULL, 0, ask, NULL, 0), 0, 0, 0);
     says("null: plan within", nuzzlefleece_plan_within(NULL, 0, ask, NULL, 0), 0, 0, 0);
     says("null: least bound", nuzzlefleece_least_bound(NULL, 0, ask, NULL, 0), 0, 0, 0);
@@ -630,6 +841,8 @@ static void takes_null(void) {
     says("null: follow", nuzzlefleece_follow(NULL, 0, watch, NULL, 0).answer, NUZZLEFLEECE_NOT_ALLOWED, 9, 0);
     says("null: estimates", nuzzlefleece_earliest(NULL, 0, ask, NULL, 0), 0, 0, 0);
     says("null: settle", nuzzlefleece_settle(NULL, 0, ask, NULL, 0, NULL, 0), 0, 0, 0);
+    says("null: why start", nuzzlefleece_why_start(NULL, 0, question, NULL, 0, NULL, 0), NUZZLEFLEECE_NOT_IN_SET, 9, 0);
+    reasons("null: why no plan", nuzzlefleece_why_no_plan(NULL, 0, ask), 0, 0, NUZZLEFLEECE_WHY_NEITHER, NUZZLEFLEECE_NO_FACT);
     says("null: read file", nuzzlefleece_read_file(NULL, 0, NULL, 0).answer, NUZZLEFLEECE_FILE_DAMAGED, 0, 0);
     says("null: write file", nuzzlefleece_write_file(NULL, 0, save, NULL, 0), NUZZLEFLEECE_LENT_TOO_SHORT, 0, 0);
     says("null: tidy", nuzzlefleece_tidy(0, NULL, 0), NUZZLEFLEECE_FILE_DAMAGED, 0, 0);
@@ -637,6 +850,7 @@ static void takes_null(void) {
     says("null: page", nuzzlefleece_page(NULL, 0, NULL, 0), NUZZLEFLEECE_LENT_TOO_SHORT, 0, 0);
     ask.goals = 2;
     says("null: a goal that nothing adds", nuzzlefleece_least_bound(NULL, 0, ask, NULL, 0), NUZZLEFLEECE_NO_PLAN, 0, 65535);
+    reasons("null: and why", nuzzlefleece_why_no_plan(NULL, 0, ask), 0, 0, NUZZLEFLEECE_WHY_NEVER, 1);
 }
 
 /* The refusals of a table, by the call that returns a value of its own on refusal. */
@@ -678,11 +892,12 @@ static void refuses_tables(void) {
 static void describes_itself(void) {
     expect("version", nuzzlefleece_version() == NUZZLEFLEECE_VERSION);
     expect("a record has 32 bytes", sizeof(nuzzlefleece_action) == NUZZLEFLEECE_RECORD_BYTES);
-    for (unsigned number = 0; number <= NUZZLEFLEECE_BEFORE_RELEASE; number++) {
-        expect("words of a refusal", strcmp(nuzzlefleece_words(number), "no such refusal") != 0);
+    for (unsigned number = 0; number <= NUZZLEFLEECE_NOT_IN_SET + 1; number++) {
+        int known = number <= NUZZLEFLEECE_BEFORE_RELEASE || number == NUZZLEFLEECE_NOT_IN_SET;
+        expect("words of a refusal, and of no other", (strcmp(nuzzlefleece_words(number), "no such refusal") != 0) == known);
     }
     expect("words of 20", strcmp(nuzzlefleece_words(NUZZLEFLEECE_RELEASE_WRONG), "a release over 2,880") == 0);
-    expect("no more refusals", strcmp(nuzzlefleece_words(22), "no such refusal") == 0);
+    expect("words of 27", strcmp(nuzzlefleece_words(NUZZLEFLEECE_NOT_IN_SET), "why a job starts: it is not in the set") == 0);
 }
 
 int main(void) {
@@ -705,6 +920,14 @@ int main(void) {
     refuses_words();
     refuses_jobs_out();
     refuses_wrong_plans();
+    explains_p3();
+    ends_chains_at_releases();
+    refuses_starts();
+    takes_exact_lengths();
+    explains_full_tables();
+    answers_no_plan();
+    names_edge_facts();
+    refuses_reasons();
     answers_files();
     tidies_full_files();
     tidies_notes();

@@ -5,7 +5,7 @@ from typing import NamedTuple
 KINDS = {
     1: 'check plan', 2: 'plan within bound', 3: 'least bound', 4: 'supports', 5: 'binding pairs',
     6: 'estimates', 7: 'settle', 8: 'read file', 9: 'write file', 10: 'opening facts', 11: 'why jobs clash',
-    12: 'tidy file', 13: 'follow',
+    12: 'tidy file', 13: 'follow', 14: 'why job starts', 15: 'why no plan',
 }
 EVENTS = {0: 'start', 1: 'finish'}
 WORDS = 16
@@ -46,7 +46,7 @@ class Call:
         lengths = head[9:12] if kind == 10 else []
         fits = (len(self.records) <= MOST_RECORDS and len(self.table) <= most and head[2] <= 255
                 and head[5] <= 65535 and max(lengths, default=0) <= MOST_MARKS
-                and (kind == 10 or head[10] <= MOST_OUT) and (kind != 13 or max(head[12:14]) <= 255))
+                and (kind == 10 or head[10] <= MOST_OUT) and (kind not in (13, 14) or max(head[12:14]) <= 255))
         if not fits or head[8] != len(self.records) or table_bytes(head) != len(self.table):
             raise ValueError(f'a call that does not fit: {head}')
 
@@ -156,15 +156,20 @@ def event_text(call):
             f'event {event} ({EVENTS.get(event, "none")}) of job {job}']
 
 
+def pairs_text(call):
+    """The set and the pairs."""
+    head, table = call.head, call.table
+    pairs = [f'{table[at]}-{table[at + 1]}' for at in range(0, len(table) - 1, 2)]
+    return [f'set {facts_text(head[6])}, pair count {head[7]}, {len(table)} bytes of pairs: ' + ' '.join(pairs[:600])]
+
+
 def given_text(call):
     """What stands behind the table, by kind."""
-    kind, head, table = call.head[0], call.head, call.table
+    kind, head = call.head[0], call.head
     if kind in (1, 4, 5, 13):
-        return [starts_text(table)] + (event_text(call) if kind == 13 else [])
-    if kind == 7:
-        pairs = [f'{table[at]}-{table[at + 1]}' for at in range(0, len(table) - 1, 2)]
-        return [f'set {facts_text(head[6])}, pair count {head[7]}, {len(table)} bytes of pairs: '
-                + ' '.join(pairs[:600])]
+        return [starts_text(call.table)] + (event_text(call) if kind == 13 else [])
+    if kind in (7, 14):
+        return pairs_text(call) + ([f'job {head[13]}'] if kind == 14 else [])
     if kind == 9:
         return buffer_text(call)
     return []
@@ -198,6 +203,6 @@ def call_text(call):
         lines = buffer_text(call)
     else:
         lines = table_text(call) + given_text(call)
-    if kind in (2, 3, 4, 5, 6, 7):
+    if kind in (2, 3, 4, 5, 6, 7, 14):
         lines.append(f'{head[10]} elements lent, filled with {head[11]:02x}')
     return '\n'.join([f'{kind} {name}'] + ['  ' + line for line in lines])

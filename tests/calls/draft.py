@@ -10,13 +10,15 @@ from tables import (LAST_BOUND, LAST_RELEASE, LONGEST, MOST_JOBS, NAMED, OUT, ch
 
 PAIR_TABLE = 552
 RECORD = 32
-OFFERED, TABLED, FOLLOW = (1, 4, 5), (1, 2, 3, 4, 5, 6, 7, 8, 9), 13
+OFFERED, TABLED = (1, 4, 5), (1, 2, 3, 4, 5, 6, 7, 8, 9)
+SETTLE, FOLLOW, WHY_START, WHY_NO_PLAN = 7, 13, 14, 15
+SETTLING = SETTLE, WHY_START
 MOST = 2 ** 64 - 1
 
 
 def room_needed(kind, count):
     """Elements of the lent output table."""
-    return {4: 64 * (count + 1), 5: PAIR_TABLE, 1: 0, 8: 0, 9: 0, FOLLOW: 0}.get(kind, count)
+    return {4: 64 * (count + 1), 5: PAIR_TABLE, 1: 0, 8: 0, 9: 0, FOLLOW: 0, WHY_NO_PLAN: 0}.get(kind, count)
 
 
 def save_bytes(jobs, count, atoms, opening, goals, bound, distance, notes=b''):
@@ -38,7 +40,7 @@ class Draft:
         self.before, self.notes, self.behind = b'', b'', b''
         self.used, self.buffer = 0, bytes(RECORD * self.count + TRAILER)
         self.lent = [Job(0x1111, 0x2222, 0x4444, 77)] * self.count
-        self.room, self.fill = room_needed(kind, self.count), 0 if kind == FOLLOW else 0xab
+        self.room, self.fill = room_needed(kind, self.count), 0 if kind in (FOLLOW, WHY_NO_PLAN) else 0xab
         self.started = self.finished = self.event = self.job = 0
 
     def file(self):
@@ -49,7 +51,7 @@ class Draft:
     def given(self):
         if self.kind in (*OFFERED, FOLLOW):
             return struct.pack(f'<{len(self.starts)}H', *self.starts)
-        if self.kind == 7:
+        if self.kind in SETTLING:
             return b''.join(bytes(pair) for pair in self.pairs) + self.behind
         return {8: self.file, 9: lambda: self.buffer}.get(self.kind, bytes)()
 
@@ -57,8 +59,8 @@ class Draft:
         given = self.given()
         if self.kind == 8:
             return Call([8] + [0] * 7 + [len(self.lent), len(given)], self.lent, given)
-        six = {7: self.set, 9: self.used, FOLLOW: self.started}.get(self.kind, 0)
-        seven = {7: self.pair_count, FOLLOW: self.finished}.get(self.kind, 0)
+        settling = dict.fromkeys(SETTLING, (self.set, self.pair_count))
+        six, seven = {**settling, 9: (self.used, 0), FOLLOW: (self.started, self.finished)}.get(self.kind, (0, 0))
         head = [self.kind, self.count, marked(self.atoms, self.gap), self.opening, self.goals, self.bound, six, seven,
                 len(self.jobs), len(given), self.room, self.fill, self.event, self.job]
         return Call(head, self.jobs, given)
@@ -83,8 +85,8 @@ def short_room(draft, dice, place):
 
 def short_given(draft, dice, place):
     draft.starts = draft.starts[:-1]
-    draft.pair_count += 1 if draft.kind == 7 else 0
-    draft.behind = bytes(1) if draft.kind == 7 else b''
+    draft.pair_count += 1 if draft.kind in SETTLING else 0
+    draft.behind = bytes(1) if draft.kind in SETTLING else b''
 
 
 def bad_atoms(draft, dice, place):
@@ -195,6 +197,14 @@ def cut_to_limits(draft):
     return draft
 
 
+def with_lengths(draft, dice):
+    """More is lent than needed, now and then."""
+    draft.room += dice.choice((0, 0, 1, 3))
+    draft.jobs += [Job(MOST, MOST, MOST, OUT)] * dice.choice((0, 0, 1))
+    draft.fill = dice.choice((0, 0xff, 0xab, 0x01))
+    return draft
+
+
 # Offered plans: a valid one, and what may be done to it.
 
 def moved(dice, problem, starts):
@@ -270,7 +280,7 @@ def each_named(dice, crates):
 def settled(problem, asked, bounds):
     """Settling of the jobs asked, one behind the other, within each of the bounds."""
     for bound in sorted(bounds):
-        draft = Draft(7, replace(problem, bound=bound))
+        draft = Draft(SETTLE, replace(problem, bound=bound))
         draft.set = word(*asked)
         draft.pairs = list(zip(asked, asked[1:]))
         draft.pair_count = len(draft.pairs)

@@ -14,14 +14,15 @@ import files
 import follows
 import gaps
 import readings
+import reasons
 import releases
 import rounds
+import settlings
 import tidies
 from call import Call, Job
-from draft import (FAULTS, HYGIENE, LATE, MOST, OFFERED, ON_TIME, TABLED, Draft, base_draft, cut_to_limits, each_fault,
-                   landed, planned_table, some_offer)
-from tables import (LAST_BOUND, LONGEST, NAMED, OUT, Problem, chain, clashing, drawn_table, house, interfere,
-                    large_table, planned, tower)
+from draft import (FAULTS, HYGIENE, LATE, OFFERED, ON_TIME, TABLED, Draft, base_draft, cut_to_limits, each_fault, landed,
+                   some_offer, with_lengths)
+from tables import LAST_BOUND, LONGEST, NAMED, OUT, Problem, chain, clashing, drawn_table, house, large_table, planned, tower
 
 SEED, DRAWN = 20040725, 7000
 LATE_SEED, LATE_DRAWN = 20050725, 800
@@ -31,6 +32,7 @@ TENTHS_SEED = 20080725
 ROUNDS_SEED = 20090725
 TIDY_SEED, TIDY_DRAWN = 20100725, 600
 FOLLOW_SEED, FOLLOW_DRAWN = 20110725, 100
+REASON_SEED, REASON_DRAWN = 20120725, 150
 
 
 # Planning.
@@ -53,14 +55,6 @@ def planning(dice, crates):
     return with_lengths(draft, dice).call()
 
 
-def with_lengths(draft, dice):
-    """More is lent than needed, now and then."""
-    draft.room += dice.choice((0, 0, 1, 3))
-    draft.jobs += [Job(MOST, MOST, MOST, OUT)] * dice.choice((0, 0, 1))
-    draft.fill = dice.choice((0, 0xff, 0xab, 0x01))
-    return draft
-
-
 # Offered plans.
 
 def offered(dice, crates):
@@ -76,86 +70,6 @@ def estimating(dice, crates):
     """The bound plays no part here, so it may be any."""
     problem = landed(dice, crates, dice.choice((drawn_table, large_table, large_table))(dice))
     return with_lengths(Draft(6, replace(problem, bound=dice.choice((0, 12, 65535)))), dice).call()
-
-
-# Settling.
-
-def plan_pairs(problem, starts):
-    """Jobs of a plan that interfere, in its order."""
-    inside = sorted((start, j) for j, start in enumerate(starts) if start != OUT)
-    order = [j for _, j in inside]
-    return [(a, b) for i, a in enumerate(order) for b in order[i + 1:] if interfere(problem.jobs[a], problem.jobs[b])]
-
-
-def rising_pairs(dice, jobs):
-    """Pairs without a cycle, the same pair more than once."""
-    order = dice.sample(jobs, len(jobs))
-    places = [sorted(dice.choices(range(len(order)), k=2)) for _ in range(dice.randint(0, 40))]
-    return [(order[a], order[b]) for a, b in places if a != b]
-
-
-def any_pairs(dice, jobs):
-    return [tuple(dice.choices(jobs, k=2)) for _ in range(dice.choice((1, 2, 3, 9)))] if jobs else []
-
-
-def settled_end(draft):
-    """Where the last job ends at the least starts, or more than any bound if the pairs go in a circle."""
-    starts = {j: draft.jobs[j].release for j in range(draft.count) if draft.set >> j & 1}
-    for _ in range(len(starts) + 1):
-        over = {a: start + draft.jobs[a][3] + draft.gap for a, start in starts.items()}
-        moves = [(b, over[a]) for a, b in draft.pairs if starts[b] < over[a]]
-        for b, start in moves:
-            starts[b] = max(starts[b], start)
-        if not moves:
-            break
-    return max((start + draft.jobs[j][3] for j, start in starts.items()), default=0)
-
-
-def settling(dice, crates):
-    problem, starts = planned_table(dice, crates)
-    draft = Draft(7, problem)
-    draft.set = dice.choice((draft.set, sum(1 << j for j, start in enumerate(starts) if start != OUT),
-                             draft.set & dice.getrandbits(24)))
-    inside = [j for j in range(draft.count) if draft.set >> j & 1]
-    make = dice.choice((rising_pairs, rising_pairs, any_pairs))
-    draft.pairs = make(dice, inside) if inside else []
-    if dice.random() < 0.3:
-        draft.pairs = [pair for pair in plan_pairs(problem, starts) if set(pair) <= set(inside)]
-    draft.bound = min(LAST_BOUND, max(0, settled_end(draft) + dice.choice((0, 0, -1, 1, LAST_BOUND))))
-    spoil_pairs(dice, draft)
-    draft.pair_count = len(draft.pairs)
-    draft.behind = bytes(dice.choice((0, 0, 1, 2, 5)))
-    return with_lengths(draft, dice).call()
-
-
-def spoil_pairs(dice, draft):
-    """Now and then a pair or the set names what is not there."""
-    chance = dice.random()
-    if chance < 0.08:
-        for _ in range(dice.choice((1, 2))):
-            draft.pairs.insert(dice.randint(0, len(draft.pairs)), (dice.choice((0, 23, 63, 64, 255)), dice.randrange(26)))
-    elif chance < 0.12:
-        draft.set |= 1 << dice.randint(draft.count, 63)
-    elif chance < 0.16:
-        outside = dice.randrange(64)
-        draft.pairs.append((outside, outside))
-
-
-def settling_limits(dice):
-    """Pair counts at 600 and 601 and any others, with as many bytes, fewer and more; sets beyond the table."""
-    links = chain([1] * 24, False)
-    for pairs, count, behind in ((600, 600, 0), (601, 601, 0), (600, 601, 0), (600, 601, 1), (599, 600, 3), (601, 600, 0),
-                                 (0, 1, 0), (0, 1, 1), (3, MOST, 0), (3, 2 ** 63, 0), (3, 2 ** 63 + 1, 9), (32800, 32800, 0),
-                                 (32800, 32801, 0), (700, 1000, 0), (0, 0, 7)):
-        draft = Draft(7, links)
-        rising = [sorted(dice.sample(range(24), 2)) for _ in range(pairs)]
-        draft.pairs, draft.pair_count, draft.behind = [tuple(pair) for pair in rising], count, bytes(behind)
-        yield draft.call()
-    for beyond in (24, 25, 31, 32, 62, 63):
-        for pair in ((0, 1), (beyond, 1), (1, beyond), (beyond, beyond)):
-            draft = Draft(7, links)
-            draft.set, draft.pairs, draft.pair_count = draft.set | 1 << beyond, [pair], 1
-            yield draft.call()
 
 
 # Bad input.
@@ -249,9 +163,9 @@ def all_clash(dice):
     yield draft.call()
 
 
-WALKS = (settling_limits, all_clash, every_fault, every_place, every_length, every_count, edges, named, files.walk,
+WALKS = (settlings.settling_limits, all_clash, every_fault, every_place, every_length, every_count, edges, named, files.walk,
          readings.walk)
-FAMILIES = ((20, planning), (27, offered), (7, estimating), (11, settling), (11, files.reading), (6, files.writing),
+FAMILIES = ((20, planning), (27, offered), (7, estimating), (11, settlings.settling), (11, files.reading), (6, files.writing),
             (10, opening), (12, faulty))
 LATE_FAMILIES = [(weight, family) for weight, family in FAMILIES if family is not opening]
 
@@ -279,18 +193,20 @@ def mixed(seed, walks, count=0, crates=ON_TIME):
 
 def corpus():
     """The fixed calls: those that stood before there were releases, unchanged, behind them those with releases, those
-    under rule 2, those on clashes, those beside halves of a tenth, estimates that take many rounds, files to tidy, and last
-    plans to follow."""
+    under rule 2, those on clashes, those beside halves of a tenth, estimates that take many rounds, files to tidy, plans to
+    follow, and last those that ask for reasons."""
     return (mixed(SEED, WALKS, DRAWN, ON_TIME) + mixed(LATE_SEED, releases.WALKS, LATE_DRAWN, LATE)
             + mixed(GAP_SEED, gaps.WALKS, GAP_DRAWN, HYGIENE) + mixed(CLASH_SEED, clashes.WALKS)
             + mixed(TENTHS_SEED, (readings.beside_halves,)) + mixed(ROUNDS_SEED, rounds.WALKS)
             + mixed(TIDY_SEED, (*tidies.WALKS, several(tidies.drawn, TIDY_DRAWN)))
-            + mixed(FOLLOW_SEED, (*follows.WALKS, several(follows.drawn, FOLLOW_DRAWN))))
+            + mixed(FOLLOW_SEED, (*follows.WALKS, several(follows.drawn, FOLLOW_DRAWN)))
+            + mixed(REASON_SEED, (*reasons.WALKS, several(reasons.drawn, REASON_DRAWN))))
 
 
 def more(count, seed):
     """A tenth of the calls on clashes, one in fifty beside halves of a tenth, one in fifty for estimates that take many rounds, one in
-    twenty on files to tidy, one in twenty on plans to follow; of the others half under rule 2, half of all on tables with releases."""
+    twenty each on files to tidy, on plans to follow and for reasons; of the others half under rule 2, half of all on tables with
+    releases."""
     dice = random.Random(seed)
     for _ in range(count):
         chance = dice.random()
@@ -304,6 +220,8 @@ def more(count, seed):
             yield tidies.drawn(dice)
         elif chance < 0.24:
             yield follows.drawn(dice)
+        elif chance < 0.29:
+            yield reasons.drawn(dice)
         else:
             yield from drawn(dice, 1, dice.choice((ON_TIME, LATE, HYGIENE, HYGIENE)))
 

@@ -22,6 +22,11 @@ def word(*facts):
     return sum(1 << fact for fact in set(facts))
 
 
+def facts_in(facts):
+    """The facts of a word, lowest first."""
+    return [fact for fact in range(64) if facts >> fact & 1]
+
+
 def job(conditions, additions, deletions, duration):
     return Job(word(*conditions), word(*additions), word(*deletions), duration)
 

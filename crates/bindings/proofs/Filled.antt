@@ -18,7 +18,7 @@ use Rattle.rules.specs.Pairs.{joined, pairBytes}
 use Rattle.tables.specs.declared.Loaded.{Loaded}
 use Rattle.tables.specs.declared.Ask.{Ask}
 use Rattle.tables.specs.declared.Answer.{Answer}
-use Rattle.tables.specs.Tables.{problem, answerOf, filled}
+use Rattle.tables.specs.Tables.{problem, answerOf, filled, written}
 use Rattle.tables.specs.Steps.{Judges}
 use Rattle.verdict.specs.Offered.{offered}
 use Rattle.verdict.specs.Steps.{Sound, Given}
@@ -26,7 +26,7 @@ use Rattle.verdict.proofs.Accepted.{offered-checks}
 use Rattle.tables.proofs.Calls.{accepts-by}
 use Rattle.tables.proofs.Laws.{said, numbered, answer-no, changed-new, changed-old}
 use Rattle.tables.proofs.Lent.{filled-more, filled-same}
-use Rattle.bindings.specs.Bindings.{supportVerdict, Supports, pairVerdict, Pairs, written}
+use Rattle.bindings.specs.Bindings.{supportVerdict, Supports, pairVerdict, Pairs}
 use Rattle.bindings.specs.Steps.{Appends}
 use Rattle.bindings.proofs.Count.{pairs-room}
 

@@ -22,10 +22,10 @@ use Rattle.tables.specs.declared.Action.{Action}
 use Rattle.tables.specs.declared.Loaded.{Loaded}
 use Rattle.tables.specs.declared.Ask.{Ask}
 use Rattle.tables.specs.declared.Answer.{Answer}
-use Rattle.tables.specs.Tables.{noJob, unmarked, problem, answerOf, changed}
+use Rattle.tables.specs.Tables.{noJob, unmarked, problem, answerOf, changed, written}
 use Rattle.tables.proofs.Lent.{filled-rest}
 use Rattle.verdict.specs.Offered.{offered}
-use Rattle.bindings.specs.Bindings.{pairVerdict, Pairs, written}
+use Rattle.bindings.specs.Bindings.{pairVerdict, Pairs}
 
 abbrev action : (conditions additions deletions duration : ℕ) → Action
 action c a d t = record { conditions = c; additions = a; deletions = d; duration = t; release = 0 }

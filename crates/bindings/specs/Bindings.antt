@@ -4,7 +4,7 @@ use mathlib.Core.Path.{_≡_}
 use mathlib.Core.List.{List}
 use Prim.Native.Nat.{ℕ, _+_, _*_, _/_}
 use lib.Dec.{ltb}
-use lib.ListN.{length, getD}
+use lib.ListN.{length}
 use Rattle.refusals.specs.Refusals.{Verdict, accepted}
 use Rattle.rules.specs.Plans.{starts}
 use Rattle.rules.specs.Supports.{supportByte}
@@ -12,7 +12,7 @@ use Rattle.rules.specs.Pairs.{pairBytes}
 use Rattle.tables.specs.declared.Loaded.{Loaded}
 use Rattle.tables.specs.declared.Ask.{Ask}
 use Rattle.tables.specs.declared.Answer.{Answer}
-use Rattle.tables.specs.Tables.{problem, answerOf, filled, changed}
+use Rattle.tables.specs.Tables.{problem, answerOf, filled, written, changed}
 use Rattle.verdict.specs.Offered.{offered}
 
 -- the verdict on a call for supports: 64 bytes a job and 64 for End are wanted
@@ -27,10 +27,6 @@ pub record Supports (l : Loaded) (q : Ask) (s old new : List ℕ) (r : Answer) :
 -- the verdict on a call for binding pairs: 552 bytes are wanted
 abbrev pub pairVerdict : Loaded → Ask → (s out : List ℕ) → Verdict
 pairVerdict l q s out = offered (ltb (length out) 552) l q s accepted
-
--- lent bytes whose first places hold the list xs; the rest is as it was
-abbrev pub written : (xs old : List ℕ) → List ℕ
-written xs old = filled (λ i. getD xs i 0) (length xs) old
 
 -- the answer to a call for binding pairs, with their count, and the lent bytes after it
 pub record Pairs (l : Loaded) (q : Ask) (s old new : List ℕ) (r : Answer) : Type 0 where

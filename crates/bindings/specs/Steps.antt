@@ -12,10 +12,9 @@ use Rattle.facts.specs.Words.{Word}
 use Rattle.rules.specs.Table.{Problem}
 use Rattle.rules.specs.Plans.{Plan, inPlan}
 use Rattle.rules.specs.Pairs.{feeds, binds, joined, pairIf}
-use Rattle.tables.specs.Tables.{filled}
+use Rattle.tables.specs.Tables.{filled, written}
 use Rattle.named.specs.declared.Row.{Row}
 use Rattle.bindings.specs.declared.Before.{Before}
-use Rattle.bindings.specs.Bindings.{written}
 
 -- ── the bytes of a row ──
 

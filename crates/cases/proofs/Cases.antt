@@ -1,6 +1,7 @@
 -- P1 to P11 and the numbers of 02 hold: one statement for the whole table.
 -- Assumes nothing.
 use mathlib.Core.Path.{refl}
+use mathlib.Core.List.{[], _∷_}
 use native.Mathlib.Omega.{arith}
 use Rattle.facts.specs.Facts.{has, after}
 use Rattle.facts.specs.Least.{least, further, any}
@@ -12,6 +13,7 @@ use Rattle.rules.specs.Verdicts.{late, early, overlap, clashes, clashFact, unre
 use Rattle.rules.specs.Supports.{blocks, startFits, jobFits, name, named}
 use Rattle.rules.specs.Pairs.{isJob as supporting, feeds, binds, joined, pairIf, pairBytes}
 use Rattle.rules.specs.Estimates.{plus, cheapest, cost, condition, dearest}
+use Rattle.rules.specs.Reasons.{released, pushed, hindranceOf}
 use Rattle.tenths.specs.Tenths.{inRange, tenths}
 use Rattle.tenths.specs.Rounding.{float}
 use Rattle.tables.specs.Tables.{unmarked}
@@ -20,7 +22,7 @@ use Rattle.cases.specs.Claims.{AllHold}
 use Rattle.cases.specs.Cases.{cases}
 use Rattle.cases.proofs.Refute.{some, every, addIf, collect, include, dueIf, exclude, ahead, behind, isJob, atLeast, chain, broken, wants, guards, step, refute, hopeless}
 use Rattle.cases.proofs.Firsts.{sooner, dueBefore, noneBefore}
-use Rattle.cases.proofs.Shown.{plans-ok, none-ok, least-ok, judged-ok, touch-ok, tenths-ok, solves, estimates-ok, takes-ok, refuses-ok}
+use Rattle.cases.proofs.Shown.{plans-ok, none-ok, least-ok, judged-ok, touch-ok, tenths-ok, all, solves, estimates-ok, stands, keeps, settles, explains-ok, hinders-ok, takes-ok, refuses-ok}
 
 -- one case, and all that follow
 infixr 20 _also_
@@ -28,7 +30,7 @@ _also_ : {A B : Type 0} → A → B → A × B
 a also b = (a, b)
 
 pub all-hold : AllHold cases
-unfolding _also_ cases unmarked blocks startFits jobFits name named supporting feeds binds joined pairIf pairBytes facts has after least further any refuseIf refuseAt refuseFor between strays jobStrays undoes jobChecks tableChecks boundCheck inPlan spoils clashOf interfere ends afterIf finishes holds late early overlap clashes clashFact unready missing planChecks inRange tenths float some every addIf collect include dueIf exclude ahead behind isJob atLeast chain broken wants guards step refute hopeless sooner dueBefore noneBefore solves plus cheapest cost condition dearest
+unfolding _also_ cases unmarked blocks startFits jobFits name named supporting feeds binds joined pairIf pairBytes facts has after least further any refuseIf refuseAt refuseFor between strays jobStrays undoes jobChecks tableChecks boundCheck inPlan spoils clashOf interfere ends afterIf finishes holds late early overlap clashes clashFact unready missing planChecks inRange tenths float some every addIf collect include dueIf exclude ahead behind isJob atLeast chain broken wants guards step refute hopeless sooner dueBefore noneBefore all solves plus cheapest cost condition dearest stands keeps settles hindranceOf
 all-hold =
     -- P1
     plans-ok refl refl tt
@@ -87,4 +89,11 @@ all-hold =
     also refl
     also refl
     also refl
+    -- Ten
+    also explains-ok refl tt (omega arith) tt (pushed {l = 0 ∷ 3 ∷ []} (omega arith) tt (pushed {l = 0 ∷ []} (omega arith) tt (released refl)))
+    also explains-ok refl tt (omega arith) tt (pushed {l = 0 ∷ 3 ∷ []} (omega arith) tt (pushed {l = 0 ∷ []} (omega arith) tt (released refl)))
+    also explains-ok refl tt (omega arith) tt (released refl)
+    also hinders-ok (0 ∷ 4 ∷ 4 ∷ 4 ∷ []) refl tt refl
+    also hinders-ok (0 ∷ 4 ∷ 4 ∷ 4 ∷ []) refl tt refl
+    also hinders-ok [] refl tt refl
     also tt

@@ -1,33 +1,40 @@
 -- Each kind of claim, from tests that are computed.
 -- Assumes nothing.
 use mathlib.Core.Path.{_≡_, refl, sym, _∙_, ap, subst}
-use mathlib.Core.Logic.{inl, inr, _↔_}
-use mathlib.Core.Bool.{Bool, not, _&&_}
-use Prim.Native.Nat.{ℕ, _-_, _≤_, _<_}
+use mathlib.Core.Logic.{_⊎_, inl, inr, _↔_}
+use mathlib.Core.Bool.{Bool, not, _&&_, _||_, cond}
+use mathlib.Core.List.{List}
+use Prim.Native.Nat.{ℕ, _+_, _-_, _≤_, _<_}
 use native.Mathlib.Omega.{arith}
 use lib.Dec.{T, eqb, ltb, eqb→eq, ltb→lt, T-not}
 use lib.Ieee.{Float}
 use lib.IntN.{ℤ}
 use Rattle.facts.specs.Least.{any}
-use Rattle.facts.proofs.Bools.{and-l, and-r, certain}
-use Rattle.facts.proofs.Least.{any-of}
+use Rattle.facts.proofs.Bools.{chosen, unchosen, and-l, and-r, or-cases, certain, at-most}
+use Rattle.facts.proofs.Least.{any-of, any-at}
 use Rattle.refusals.specs.Refusals.{Verdict, accepted, refused}
 use Rattle.rules.specs.Table.{Problem, tableChecks, boundCheck}
 use Rattle.rules.specs.Premises.{InOrder}
 use Rattle.rules.specs.Clashes.{interfere}
-use Rattle.rules.specs.Plans.{Plan, inPlan, finish, Valid}
+use Rattle.rules.specs.Plans.{Plan, starts, inPlan, finish, Over, Valid}
 use Rattle.rules.specs.Verdicts.{planChecks}
 use Rattle.rules.specs.Estimates.{dearest, Estimates}
+use Rattle.rules.specs.declared.Hindrance.{Hindrance}
+use Rattle.rules.specs.Settling.{Asked, Settled}
+use Rattle.rules.specs.Reasons.{fitsBefore, Chain, explained, hindranceOf}
 use Rattle.rules.specs.Order.{First, LeastBound, NoPlan, Planned, Bounded}
 use Rattle.refusals.proofs.Refused.{Checks, then-checks, went-on, stopped, if-pass}
 use Rattle.rules.proofs.CheckLists.{table-checks, bound-checks}
 use Rattle.rules.proofs.Checked.{in-order}
 use Rattle.rules.proofs.Judged.{judged}
 use Rattle.rules.proofs.Early.{estimates-only}
+use Rattle.rules.proofs.Settle.{Closed, Tight, tight-settled}
+use Rattle.rules.proofs.Chained.{fits-pair, fits-start, explained-only}
+use Rattle.rules.proofs.Hindered.{hindrance-only}
 use Rattle.rules.proofs.Orders.{wider, planned-only, bounded-only}
 use Rattle.tenths.specs.Tenths.{inRange, AreTenths, tenths}
 use Rattle.tenths.proofs.Nearest.{tenths-are}
-use Rattle.cases.specs.Claims.{tableAndBound, Taken, RefusedWith, Plans, Refuses10, LeastIs, Judged, Touch, HasTenths, EstimatesAre}
+use Rattle.cases.specs.Claims.{tableAndBound, Taken, RefusedWith, Plans, Refuses10, LeastIs, Judged, Touch, HasTenths, EstimatesAre, ExplainedBy, HinderedBy}
 use Rattle.cases.proofs.Refute.{hopeless}
 use Rattle.cases.proofs.Firsts.{noneBefore, none, first, below-least}
 
@@ -121,16 +128,85 @@ touch-ok {P} {s} {a} {b} l m i c e = record {
 pub tenths-ok : {x : Float} {t : ℤ} → T (inRange x) → tenths x ≡ t → HasTenths x t
 tenths-ok {x} {t} h e = record { ranged = h; are = subst (AreTenths x) e (tenths-are x) }
 
+-- every number below n passes the test
+unfoldable pub all : (ℕ → Bool) → ℕ → Bool
+all f n = not (any (λ i. not (f i)) n)
+
+all-of : (f : ℕ → Bool) (n : ℕ) → T (all f n) → (i : ℕ) → i < n → T (f i)
+unfolding all
+all-of f n t i l = certain (f i) (λ x. T-not (any (λ i. not (f i)) n) t (any-of (λ i. not (f i)) n i l x))
+
 -- the numbers are what the rules make of them, job by job
 unfoldable pub solves : Problem → (est : ℕ → ℕ) → Bool
-solves P est = not (any (λ i. not (eqb (est i) (dearest P est i 64))) (P .count))
+solves P est = all (λ i. eqb (est i) (dearest P est i 64)) (P .count)
 
 pub estimates-ok : {P : Problem} {est : ℕ → ℕ} → tableAndBound P 0 accepted ≡ accepted → T (solves P est) → EstimatesAre P est
 unfolding solves
-estimates-ok {P} {est} taken t = record { solved = all; only = λ e x i l. estimates-only P (ordered P 0 taken) e est x all i l }
+estimates-ok {P} {est} taken t = record { solved = numbers; only = λ e x i l. estimates-only P (ordered P 0 taken) e est x numbers i l }
   where
-    differs : ℕ → Bool
-    differs i = not (eqb (est i) (dearest P est i 64))
+    numbers : Estimates P est
+    numbers i l = eqb→eq (est i) (dearest P est i 64) (all-of (λ i. eqb (est i) (dearest P est i 64)) (P .count) t i l)
 
-    all : Estimates P est
-    all i l = eqb→eq (est i) (dearest P est i 64) (certain (eqb (est i) (dearest P est i 64)) (λ n. T-not (any differs (P .count)) t (any-of differs (P .count) i l n)))
+pub hinders-ok : {P : Problem} {bound : ℕ} {h : Hindrance} (l : List ℕ) → tableAndBound P 0 accepted ≡ accepted → T (solves P (starts l)) → hindranceOf P (starts l) bound ≡ h → HinderedBy P bound h
+hinders-ok {P} {bound} l taken t e = record { tells = λ est x. hindrance-only P (ordered P 0 taken) est (starts l) x (estimates-ok taken t .solved) bound ∙ e }
+
+-- ── settled starts ──
+
+-- job j ends by the bound, from its release on, at it or right behind the first job of a pair
+unfoldable pub stands : Problem → Asked → Plan → ℕ → Bool
+stands P q z j = (eqb (z j) (q .from j) || any (λ a. fitsBefore P q z a j) (P .count)) && (not (ltb (z j) (q .from j)) && not (ltb (q .bound) (finish P z j)))
+
+-- no pair of jobs a and b names a job outside the set or is broken
+unfoldable pub keeps : Problem → Asked → Plan → (a b : ℕ) → Bool
+keeps P q z a b = not (q .pair a b) || ((q .set a && q .set b) && not (ltb (z b) (finish P z a + P .gap)))
+
+-- the jobs of the set stand so, the others are out, and all pairs are kept
+unfoldable pub settles : Problem → Asked → Plan → Bool
+settles P q z = all (λ j. cond (q .set j) (stands P q z j) (eqb (z j) 65535)) (P .count) && all (λ b. all (λ a. keeps P q z a b) (P .count)) (P .count)
+
+module _ (P : Problem) (q : Asked) (z : Plan) (t : T (settles P q z)) where
+  job-ok : (j : ℕ) → j < P .count → T (cond (q .set j) (stands P q z j) (eqb (z j) 65535))
+  unfolding settles
+  job-ok = all-of (λ j. cond (q .set j) (stands P q z j) (eqb (z j) 65535)) (P .count) (and-l (all (λ j. cond (q .set j) (stands P q z j) (eqb (z j) 65535)) (P .count)) _ t)
+
+  standing : (j : ℕ) → j < P .count → T (q .set j) → T (stands P q z j)
+  standing j l s = subst T (chosen (q .set j) (stands P q z j) (eqb (z j) 65535) s) (job-ok j l)
+
+  kept : (a b : ℕ) → a < P .count → b < P .count → T (q .pair a b) → T (q .set a && q .set b) × Over P z a b
+  unfolding settles keeps
+  kept a b l m p = go (or-cases (not (q .pair a b)) _ (all-of (λ a. keeps P q z a b) (P .count) (all-of (λ b. all (λ a. keeps P q z a b) (P .count)) (P .count) (and-r (all (λ j. cond (q .set j) (stands P q z j) (eqb (z j) 65535)) (P .count)) _ t) b m) a l))
+    where
+      go : T (not (q .pair a b)) ⊎ T ((q .set a && q .set b) && not (ltb (z b) (finish P z a + P .gap))) → T (q .set a && q .set b) × Over P z a b
+      go (inl n) = absurd (T-not (q .pair a b) n p)
+      go (inr x) = (and-l (q .set a && q .set b) _ x, at-most (z b) (finish P z a + P .gap) (T-not (ltb (z b) (finish P z a + P .gap)) (and-r (q .set a && q .set b) _ x)))
+
+  closed : Closed P q
+  closed a b l m p = let k = kept a b l m p .0 in (and-l (q .set a) _ k, and-r (q .set a) _ k)
+
+  tight : Tight P q z
+  unfolding stands
+  tight j l s = go (or-cases (eqb (z j) (q .from j)) _ (and-l (eqb (z j) (q .from j) || any (λ a. fitsBefore P q z a j) (P .count)) _ (standing j l s)))
+    where
+      go : T (eqb (z j) (q .from j)) ⊎ T (any (λ a. fitsBefore P q z a j) (P .count)) → (z j ≡ q .from j) ⊎ ((a : ℕ) × (a < P .count) × T (q .pair a j) × (z j ≡ finish P z a + P .gap))
+      go (inl e) = inl (eqb→eq (z j) (q .from j) e)
+      go (inr x) = let h = any-at (λ a. fitsBefore P q z a j) (P .count) x in inr (h .0, h .1, fits-pair P q z (h .0) j (h .2), fits-start P q z (h .0) j (h .2))
+
+  in-time : (j : ℕ) → j < P .count → T (q .set j) → (q .from j ≤ z j) × (finish P z j ≤ q .bound)
+  unfolding stands
+  in-time j l s =
+      let x = and-r (eqb (z j) (q .from j) || any (λ a. fitsBefore P q z a j) (P .count)) _ (standing j l s) in
+      (at-most (z j) (q .from j) (T-not (ltb (z j) (q .from j)) (and-l (not (ltb (z j) (q .from j))) _ x)), at-most (q .bound) (finish P z j) (T-not (ltb (q .bound) (finish P z j)) (and-r (not (ltb (z j) (q .from j))) _ x)))
+
+  settled-ok : InOrder P → Settled P q z
+  settled-ok ok = tight-settled P ok q closed z tight (record { from = λ j l s. in-time j l s .0; order = λ a b l m p. kept a b l m p .1; ends = λ j l s. in-time j l s .1 })
+      (λ j l n. eqb→eq (z j) 65535 (subst T (unchosen (q .set j) (stands P q z j) (eqb (z j) 65535) n) (job-ok j l)))
+
+pub explains-ok : {P : Problem} {q : Asked} {j : ℕ} {z : Plan} {l : List ℕ} → tableAndBound P 0 accepted ≡ accepted → T (settles P q z) → j < P .count → T (q .set j) → Chain P q z j l → ExplainedBy P q j z l
+explains-ok {P} {q} {j} {z} {l} taken t m s c = record {
+  settled = f;
+  chain = c;
+  answer = λ v k x. (let r = explained-only P q j (λ _. m) (explained f s c) x in (sym (r .0), sym (r .1 refl)));
+}
+  where
+    f : Settled P q z
+    f = settled-ok P q z t (ordered P 0 taken)

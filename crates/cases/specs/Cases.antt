@@ -3,10 +3,11 @@
 use mathlib.Core.List.{List, [], _∷_}
 use Prim.Native.Nat.{ℕ, _+_}
 use lib.IntN.{pos, negℤ}
+use Rattle.rules.specs.declared.Hindrance.the-variants.{Never, TooDear, Neither}
 use Rattle.rules.specs.Table.{Problem}
 use Rattle.tenths.specs.Rounding.{float}
 use Rattle.cases.specs.Jobs.{action, problemOf, lasting, landing}
-use Rattle.cases.specs.Claims.{Claim, plans, noPlan, least, touching, offered, clashing, binding, tenths, estimates, takes, refuses}
+use Rattle.cases.specs.Claims.{Claim, plans, noPlan, least, touching, offered, clashing, binding, tenths, estimates, explains, hinders, takes, refuses}
 use Rattle.tables.specs.declared.Action.{Action}
 
 -- ── jobs U ──
@@ -163,4 +164,16 @@ cases =
     ∷ clashing both 0 1 1 3
     -- Three: two jobs with one record that deletes its own condition clash over it
     ∷ clashing twice 0 1 1 0
+    -- Ten: settled with the pairs of P3, drench starts at 7 behind wash, which is behind unpack
+    ∷ explains (U []) (0 ∷ 1 ∷ 2 ∷ 3 ∷ []) (0 ∷ 1 ∷ 0 ∷ 2 ∷ 0 ∷ 3 ∷ 3 ∷ 1 ∷ []) 12 1 (0 ∷ 7 ∷ 4 ∷ 4 ∷ []) (0 ∷ 3 ∷ 1 ∷ [])
+    -- Ten: by rule 2 at 9, for the same reason
+    ∷ explains (gapped []) (0 ∷ 1 ∷ 2 ∷ 3 ∷ []) (0 ∷ 1 ∷ 0 ∷ 2 ∷ 0 ∷ 3 ∷ 3 ∷ 1 ∷ []) 13 1 (0 ∷ 9 ∷ 5 ∷ 5 ∷ []) (0 ∷ 3 ∷ 1 ∷ [])
+    -- Ten: warm released at 4 starts there, and unpack, behind which it is asked, is not named
+    ∷ explains (warmFrom 4) (0 ∷ 2 ∷ []) (0 ∷ 2 ∷ []) 12 2 (0 ∷ out ∷ 4 ∷ out ∷ []) (2 ∷ [])
+    -- Ten: P2: fact 3 is too dear
+    ∷ hinders (U (2 ∷ 3 ∷ [])) 11 (TooDear 3)
+    -- Ten: P6: neither
+    ∷ hinders (U (0 ∷ 1 ∷ [])) 2880 Neither
+    -- Ten: P7: fact 1 is never reachable
+    ∷ hinders (problemOf [] 2 (0 ∷ []) (1 ∷ [])) 0 (Never 1)
     ∷ []

@@ -3,9 +3,10 @@
 use mathlib.Core.Path.{_≡_}
 use mathlib.Core.Logic.{_↔_}
 use mathlib.Core.List.{List, [], _∷_}
-use Prim.Native.Nat.{ℕ, _≤_, _<_}
+use Prim.Native.Nat.{ℕ, _/_, _≤_, _<_}
 use lib.Dec.{T}
 use lib.Ieee.{Float}
+use lib.ListN.{length}
 use lib.IntN.{ℤ}
 use Rattle.refusals.specs.Refusals.{Verdict, accepted, refused, refusedFor}
 use Rattle.rules.specs.Table.{Problem, tableChecks, boundCheck}
@@ -14,8 +15,13 @@ use Rattle.rules.specs.Plans.{Plan, starts, In, finish, Valid}
 use Rattle.rules.specs.Verdicts.{planChecks}
 use Rattle.rules.specs.Pairs.{pairBytes}
 use Rattle.rules.specs.Estimates.{Estimates}
+use Rattle.rules.specs.Settling.{Asked, askedBy, Settled}
+use Rattle.rules.specs.declared.Hindrance.{Hindrance}
+use Rattle.rules.specs.Reasons.{Chain, Explained, hindranceOf}
 use Rattle.rules.specs.Order.{First, LeastBound, NoPlan, Planned, Bounded}
+use Rattle.times.specs.Times.{pairFirst, pairSecond}
 use Rattle.tenths.specs.Tenths.{inRange, AreTenths}
+use Rattle.cases.specs.Jobs.{facts}
 
 -- the kinds of claim
 pub data Claim : Type 0 where
@@ -37,6 +43,10 @@ pub data Claim : Type 0 where
   tenths : Float → ℤ → Claim
   -- these are the earliest estimates
   estimates : Problem → (numbers : List ℕ) → Claim
+  -- settled over these pairs, two numbers a pair, these jobs have these starts, and this is the chain that ends at the job
+  explains : Problem → (set pairs : List ℕ) → (bound job : ℕ) → (starts chain : List ℕ) → Claim
+  -- this is why there is no plan within the bound, as far as the estimates tell
+  hinders : Problem → (bound : ℕ) → Hindrance → Claim
   -- checks 4 to 9 and 20 take the table and the bound
   takes : Problem → (bound : ℕ) → Claim
   -- checks 4 to 9 and 20 refuse the table or the bound with this number and place
@@ -101,6 +111,20 @@ pub record EstimatesAre (P : Problem) (est : ℕ → ℕ) : Type 0 where
   pub solved : Estimates P est
   pub only : (e : ℕ → ℕ) → Estimates P e → (i : ℕ) → i < P .count → e i ≡ est i
 
+-- what is asked of settling with this set and these pairs
+abbrev pub asking : Problem → (set pairs : List ℕ) → (bound : ℕ) → Asked
+asking P set pairs bound = askedBy P (facts set) (pairFirst pairs) (pairSecond pairs) (length pairs / 2) bound
+
+-- z is settled, l is the chain of job j, and every answer that the rules allow gives it
+pub record ExplainedBy (P : Problem) (q : Asked) (j : ℕ) (z : Plan) (l : List ℕ) : Type 0 where
+  pub settled : Settled P q z
+  pub chain : Chain P q z j l
+  pub answer : (v : Verdict) (m : List ℕ) → Explained P q j v m → (v ≡ accepted) × (m ≡ l)
+
+-- h is what the estimates tell, whichever solution they are
+pub record HinderedBy (P : Problem) (bound : ℕ) (h : Hindrance) : Type 0 where
+  pub tells : (est : ℕ → ℕ) → Estimates P est → hindranceOf P est bound ≡ h
+
 -- what a case claims of the rules
 abbrev pub IsSo : Claim → Type 0
 IsSo (plans P bound l) = Plans P bound (starts l)
@@ -112,6 +136,8 @@ IsSo (clashing P i j kind fact) = numbers (clashIn P i j) ≡ record { kind = ki
 IsSo (binding P l bytes) = pairBytes P (starts l) ≡ bytes
 IsSo (tenths x t) = HasTenths x t
 IsSo (estimates P l) = EstimatesAre P (starts l)
+IsSo (explains P set pairs bound j l m) = ExplainedBy P (asking P set pairs bound) j (starts l) m
+IsSo (hinders P bound h) = HinderedBy P bound h
 IsSo (takes P bound) = Taken P bound
 IsSo (refuses P bound number place) = RefusedWith P bound number place
 

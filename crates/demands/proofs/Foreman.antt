@@ -26,14 +26,14 @@ use Rattle.rules.proofs.OneByOne.{one-by-one}
 use Rattle.tables.specs.declared.Loaded.{Loaded}
 use Rattle.tables.specs.declared.Ask.{Ask}
 use Rattle.tables.specs.declared.Answer.{Answer}
-use Rattle.tables.specs.Tables.{problem, filled, callChecks}
+use Rattle.tables.specs.Tables.{problem, filled, written, callChecks}
 use Rattle.tables.proofs.Lent.{filled-at, length-filled}
 use Rattle.tables.proofs.Laws.{accepts, numbered, changed-new}
 use Rattle.tables.proofs.Calls.{cleared}
 use Rattle.verdict.specs.Offered.{offered}
 use Rattle.verdict.specs.Steps.{Sound}
 use Rattle.verdict.proofs.Accepted.{offered-checks, sound, exactly}
-use Rattle.bindings.specs.Bindings.{Supports, supportVerdict, Pairs, pairVerdict, written}
+use Rattle.bindings.specs.Bindings.{Supports, supportVerdict, Pairs, pairVerdict}
 use Rattle.bindings.proofs.Count.{pairs-room}
 use Rattle.planning.specs.Planning.{planningChecks, PlansWithin, BoundsWithin}
 use Rattle.planning.proofs.Found.{plan-found, bound-found}

@@ -14,7 +14,7 @@ use Rattle.rules.specs.Table.{Problem}
 use Rattle.rules.specs.Plans.{Plan}
 use Rattle.rules.specs.Pairs.{binds, joined, pairIf, pairBytes}
 use Rattle.tables.proofs.Lent.{filled-at}
-use Rattle.bindings.specs.Bindings.{written}
+use Rattle.tables.specs.Tables.{written}
 use Rattle.demands.specs.Kept.{InBytes, BindsIn}
 
 -- a, then b, at an even place of the list

@@ -7,7 +7,7 @@ ghost use lib.ListN.{length};
 ghost use Rattle.facts.specs.Facts.{has};
 ghost use Rattle.facts.specs.Least.{any};
 ghost use Rattle.facts.specs.Words.{Word};
-ghost use Rattle.rules.specs.Estimates.{plus, Estimates};
+ghost use Rattle.rules.specs.Estimates.{plus, cost, Estimates};
 ghost use Rattle.tables.specs.Tables.{problem};
 ghost use Rattle.tables.specs.Steps.{Released};
 ghost use Rattle.entries.specs.Entries.{entry};
@@ -111,13 +111,22 @@ fn unreached(opening: u64) -> [u16; 64]
     costs
 }
 
-// What a word of facts costs: the greatest of their costs, which have no gap.
+// What each fact costs by the estimates; no cost has a gap.
+pub fn fact_costs(l: Loaded, q: Ask, est: [u16; 24]) -> [u16; 64]
+    requires { ⌜ q .jobs ≤ 24 ⌝ }
+    ensures { λ r. ⌜ Costs (cost (problem l q) (entry est)) r 64 ⌝ }
+{
+    let mut costs = unreached(q.opening);
+    lower_all(l, q, 0, [65535u16; 24], est, &mut costs);
+    costs
+}
+
+// What a word of facts costs: the greatest of their costs.
 pub fn dearest(l: Loaded, q: Ask, est: [u16; 24], w: u64) -> u16
     requires { ⌜ q .jobs ≤ 24 ⌝ }
     ensures { λ r. ⌜ CostOf (problem l q) (entry est) w r ⌝ }
 {
-    let mut costs = unreached(q.opening);
-    lower_all(l, q, 0, [65535u16; 24], est, &mut costs);
+    let costs = fact_costs(l, q, est);
     greatest(w, &costs)
 }
 

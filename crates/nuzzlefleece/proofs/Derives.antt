@@ -1,6 +1,6 @@
--- The walk of a call that fills lent places from a lent list, `fn f(t: &[Action], q: Ask, given: &[N], out: &mut [E]) -> Answer { let l = records::load(t); core(l, q, given, out) }`, once for every core and all element types N and E.
+-- The walk of a call that fills lent places from a lent list, `fn f(t: &[Action], p: P, given: &[N], out: &mut [E]) -> Answer { let l = records::load(t); core(l, p, given, out) }`, once for every core, every struct P of numbers and all element types N and E.
 --     function g c     the MIR, where `load`'s key is g and the core's is c
---     Says             what is said of the table, q, the list given, what `out` held, what it holds at exit and the answer: the core's promise, of the table as handed in, and f's, of the lent records
+--     Says             what is said of the table, p, the list given, what `out` held, what it holds at exit and the answer: the core's promise, of the table as handed in, and f's, of the lent records
 --     derive-meets     the MIR meets f's contract, where the entries g and c of the table meet theirs
 -- Assumes `Given`.
 use mathlib.Core.Path.{_≡_, refl, subst}
@@ -28,37 +28,43 @@ use denote.Ref.{RefT, now}
 use denote.Slice.{sliceTy, sliceVal, ShrSlice, MutSlice, Room, finally, slice-vals, shr-slice-tells, shr-slice-copy, mut-slice-tells}
 use denote.Signature.{Signature, plain, shrSliceOf, mutSliceOf}
 use denote.Steps.{owned, peeks, heard, nothing}
+use denote.Struct.Declared.{Declared, shape, row}
+use denote.Struct.Struct.{layout}
 use denote.Struct.Laws as LL
 use denote.Triple.Entry.{Vals, onEntry}
 use denote.Triple.Spec.{Meets, tripleOf}
 use denote.Triple.Statement.{Contract, Triple}
 use denote.Triple.Call.{calls-at}
-use denote.Triple.Clauses.{Clauses, Ended, closing, ensured, lasts}
+use denote.Triple.Clauses.{Clauses, Ended, Lasts, closing, ensured, lasts}
 use denote.Triple.Walked.{says, Stays, stay-none-slice, stay-none, gave-slice, walkOf, goes-none-slice, goes-none, goes-gave-slice, ends-at, walked, walk-meets}
 use denote.Exit.{yes}
 use Rattle.tables.specs.declared.Loaded.{Loaded}
-use Rattle.tables.specs.declared.Ask.{Ask}
 use Rattle.tables.specs.declared.Answer.{Answer}
 use Rattle.tables.proofs.Loaded as G
 use Rattle.tables.proofs.Loaded.Laws as G′
-use Rattle.tables.proofs.Ask as P
-use Rattle.tables.proofs.Ask.Laws as P′
 use Rattle.tables.proofs.Answer as L
 use Rattle.tables.proofs.Answer.Laws as L′
 use Rattle.tables.specs.declared.Action.{Action}
 use Rattle.records.specs.Records.{loaded}
 use Rattle.tables.proofs.Action as T
+use Rattle.nuzzlefleece.proofs.Numbers.{Numbers}
 use Rattle.nuzzlefleece.proofs.Loading.{Load, v, Own, to-load, Loads, said-load, asked-load}
 
-module _ (N E : RattleType) (ε : Ty) where
+module _ (I : Numbers) (N E : RattleType) (ε : Ty) where
+  abbrev Q : Declared
+  Q = I .type
+
+  abbrev P : RattleType
+  P = row Q
+
   abbrev signature : Signature
-  signature = record { lifetimes = 3; outlives = []; params = SliceRefOf (0 ∷ []) tt (plain (λ _. T.the-row)) (λ _. tt) ∷ plain (λ _. P.the-row) ∷ shrSliceOf (1 ∷ []) tt (plain (λ _. N)) ∷ mutSliceOf (2 ∷ []) tt (plain (λ _. E)) ∷ []; result = plain (λ _. L.the-row) }
+  signature = record { lifetimes = 3; outlives = []; params = SliceRefOf (0 ∷ []) tt (plain (λ _. T.the-row)) (λ _. tt) ∷ plain (λ _. P) ∷ shrSliceOf (1 ∷ []) tt (plain (λ _. N)) ∷ mutSliceOf (2 ∷ []) tt (plain (λ _. E)) ∷ []; result = plain (λ _. L.the-row) }
 
   abbrev ended : Ended
   ended = record { signature = signature; kept = (yes, (yes, (yes, (yes, tt)))) }
 
   abbrev core-signature : Signature
-  core-signature = record { lifetimes = 2; outlives = []; params = plain (λ _. G.the-row) ∷ plain (λ _. P.the-row) ∷ shrSliceOf (0 ∷ []) tt (plain (λ _. N)) ∷ mutSliceOf (1 ∷ []) tt (plain (λ _. E)) ∷ []; result = plain (λ _. L.the-row) }
+  core-signature = record { lifetimes = 2; outlives = []; params = plain (λ _. G.the-row) ∷ plain (λ _. P) ∷ shrSliceOf (0 ∷ []) tt (plain (λ _. N)) ∷ mutSliceOf (1 ∷ []) tt (plain (λ _. E)) ∷ []; result = plain (λ _. L.the-row) }
 
   abbrev core-ended : Ended
   core-ended = record { signature = core-signature; kept = (yes, (yes, (yes, (yes, tt)))) }
@@ -68,7 +74,7 @@ module _ (N E : RattleType) (ε : Ty) where
     lifetimes = 3;
     outlives = [];
     params = 4;
-    locals = local L′.mir valueLocal ∷ local (sliceTy (tyRef (named 0) imm (pointee (T.the-row .written)))) valueLocal ∷ local P′.mir valueLocal ∷ local (sliceTy (tyRef (named 1) imm (pointee (N .written)))) valueLocal
+    locals = local L′.mir valueLocal ∷ local (sliceTy (tyRef (named 0) imm (pointee (T.the-row .written)))) valueLocal ∷ local (layout (shape Q)) valueLocal ∷ local (sliceTy (tyRef (named 1) imm (pointee (N .written)))) valueLocal
         ∷ local (sliceTy (tyRef (named 2) mut (pointee (E .written)))) valueLocal ∷ local G′.mir valueLocal ∷ local (tyRef erased mut (pointee (E .written))) valueLocal ∷ local (sliceTy (tyRef erased mut (pointee (E .written)))) valueLocal ∷ [];
     body = seq (call g (copy (place 1 []) ∷ []) (place 5 []))
         (seq (assign (place 6 []) (addrOf (place 4 (field 0 ∷ deref ε ∷ []))))
@@ -77,9 +83,9 @@ module _ (N E : RattleType) (ε : Ty) where
   }
 
   abbrev stayed : Stays (ended .signature .params) (ended .kept)
-  stayed = (stay-none-slice (0 ∷ []) tt (plain (λ _. T.the-row)) yes, (stay-none (λ _. P.the-row) yes, (stay-none-slice (1 ∷ []) tt (plain (λ _. N)) yes, (gave-slice (2 ∷ []) tt (plain (λ _. E)), tt))))
+  stayed = (stay-none-slice (0 ∷ []) tt (plain (λ _. T.the-row)) yes, (stay-none (λ _. P) yes, (stay-none-slice (1 ∷ []) tt (plain (λ _. N)) yes, (gave-slice (2 ∷ []) tt (plain (λ _. E)), tt))))
 
-  module _ (Says : Loaded → Ask → (given : List (N .Denot)) (old new : List (E .Denot)) → Answer → Type 0) where
+  module _ (Says : Loaded → Q .D → (given : List (N .Denot)) (old new : List (E .Denot)) → Answer → Type 0) where
     abbrev clauses : {M : Type 1} (𝓤 : URA M) → Clauses 𝓤 ended
     clauses 𝓤 κs a = record { ghost = Unit {0}; requires = λ _. emp 𝓤; ensures = λ _ r e. fact 𝓤 (Says (loaded (now (a .0))) (a .1 .0) (now (a .1 .1 .0)) (now (a .1 .1 .1 .0)) (now (e .1 .1 .1 .0)) r) }
 
@@ -90,7 +96,7 @@ module _ (N E : RattleType) (ε : Ty) where
     Core 𝓤 H A = tripleOf 𝓤 H A core-signature (closing 𝓤 H A core-ended (core-clauses 𝓤))
 
     module _ (#g #c : Name) {M : Type 1} (𝓤 : URA M) (H : Heap 𝓤) (A : Atoms 𝓤) (W : Given 𝓤 H A) (mem : Memory → SProp 𝓤) (run : Routine → Fun 𝓤) where
-      module _ (κ κ₁ κ₂ : Lft) (q q₁ q₂ : Share) (s : RefT (List Action)) (p : Ask) (n : RefT (List (N .Denot))) (d : RefT (List (E .Denot))) where
+      module _ (κ κ₁ κ₂ : Lft) (q q₁ q₂ : Share) (s : RefT (List Action)) (p : Q .D) (n : RefT (List (N .Denot))) (d : RefT (List (E .Denot))) where
         -- the machine values, and what the slices own
         abbrev vs : Val
         vs = v 𝓤 H A mem run κ q s
@@ -102,7 +108,7 @@ module _ (N E : RattleType) (ε : Ty) where
         vd = sliceVal (d .ptr) (length (d .now))
 
         abbrev vp : Val
-        vp = LL.val P.the-type P′.the-laws p
+        vp = LL.val Q (I .laws) p
 
         abbrev OwnS : Fml
         OwnS = Own 𝓤 H A mem run κ q s
@@ -114,7 +120,7 @@ module _ (N E : RattleType) (ε : Ty) where
         OwnD = MutSlice (named 2) κ₂ E .own d (vd ∷ [])
 
         abbrev Arg : Type 0
-        Arg = RefT (List Action) × (Ask × (RefT (List (N .Denot)) × (RefT (List (E .Denot)) × Unit {0})))
+        Arg = RefT (List Action) × (Q .D × (RefT (List (N .Denot)) × (RefT (List (E .Denot)) × Unit {0})))
 
         abbrev x : Arg
         x = (s, (p, (n, (d, tt))))
@@ -127,7 +133,7 @@ module _ (N E : RattleType) (ε : Ty) where
 
         -- ---- the call of the core, at g with the machine value w
         module _ (g : Loaded) (w : Val) where
-          abbrev args : Loaded × (Ask × (RefT (List (N .Denot)) × (RefT (List (E .Denot)) × Unit {0})))
+          abbrev args : Loaded × (Q .D × (RefT (List (N .Denot)) × (RefT (List (E .Denot)) × Unit {0})))
           args = (g, (p, (n, (d, tt))))
 
           abbrev passed : Vals core-signature (κ₁, (κ₂, tt))
@@ -136,33 +142,33 @@ module _ (N E : RattleType) (ε : Ty) where
           abbrev to-core : Core 𝓤 H A .Ghost
           to-core = (((κ₁, (κ₂, tt)), (q₁, (q₂, tt)), tt, args, passed), tt)
 
-          asked-core : Is P.the-row p (vp ∷ []) → Is G.the-row g (w ∷ []) → ent 𝓤 (sep 𝓤 (sep 𝓤 (A .lft κ₁ q₁) (sem 𝓤 H A OwnN)) (sep 𝓤 (A .lft κ₂ q₂) (sem 𝓤 H A OwnD))) (sep 𝓤 (Core 𝓤 H A .pre to-core) (sem 𝓤 H A OwnN))
+          asked-core : Is P p (vp ∷ []) → Is G.the-row g (w ∷ []) → ent 𝓤 (sep 𝓤 (sep 𝓤 (A .lft κ₁ q₁) (sem 𝓤 H A OwnN)) (sep 𝓤 (A .lft κ₂ q₂) (sem 𝓤 H A OwnD))) (sep 𝓤 (Core 𝓤 H A .pre to-core) (sem 𝓤 H A OwnN))
           asked-core ip is =
               qed W ((‵ (flft κ₁ q₁) ⊛ ‵ OwnN) ∷ ‵ (flft κ₂ q₂) ∷ ‵ OwnD ∷ []) ∵ split ! $ move ! (1 ∷ []) $ use1 W (‵ OwnN ⊛ ‵ OwnN) (shr-slice-copy 𝓤 H A W (named 1) κ₁ N .twice n (vn ∷ [])) $ split ! $
               -- [what given owns; the same; κ₁'s token; κ₂'s; what out owns]
-              nothing ! $ move ! (5 ∷ 0 ∷ []) $ fjoin ! $ move ! (1 ∷ 0 ∷ []) $ fjoin ! $ owned ! P.the-row (Is P.the-row) ((LL.makes P.the-type P′.the-plain) 𝓤 H A) p (vp ∷ []) ip $ fjoin ! $
+              nothing ! $ move ! (5 ∷ 0 ∷ []) $ fjoin ! $ move ! (1 ∷ 0 ∷ []) $ fjoin ! $ owned ! P (Is P) ((LL.makes Q (I .plain)) 𝓤 H A) p (vp ∷ []) ip $ fjoin ! $
               owned ! G.the-row (Is G.the-row) ((LL.makes G.the-type G′.the-plain) 𝓤 H A) g (w ∷ []) is $ fjoin ! $ nothing ! $ move ! (4 ∷ 0 ∷ []) $ join ! $ move ! (3 ∷ 0 ∷ []) $ join ! $
               use2 W (raw (Core 𝓤 H A .pre to-core))
-              (qed W ((‵ (flft κ₁ q₁) ⊛ (‵ (flft κ₂ q₂) ⊛ ‵ ftrue)) ∷ ‵ (owns (G.the-row ∷ P.the-row ∷ ShrSlice (named 0) κ₁ N ∷ MutSlice (named 1) κ₂ E ∷ []) args passed) ∷ []) ∵ join ! $ frame ! $ done !) $ frame ! $ done !
+              (qed W ((‵ (flft κ₁ q₁) ⊛ (‵ (flft κ₂ q₂) ⊛ ‵ ftrue)) ∷ ‵ (owns (G.the-row ∷ P ∷ ShrSlice (named 0) κ₁ N ∷ MutSlice (named 1) κ₂ E ∷ []) args passed) ∷ []) ∵ join ! $ frame ! $ done !) $ frame ! $ done !
 
-        exits : (r : Answer) (z : Val) (zs : List (E .Denot)) → Is P.the-row p (vp ∷ []) → Says (loaded (s .now)) p (n .now) (d .now) zs r → length zs ≡ length (d .now)
+        exits : (r : Answer) (z : Val) (zs : List (E .Denot)) → Is P p (vp ∷ []) → Says (loaded (s .now)) p (n .now) (d .now) zs r → length zs ≡ length (d .now)
             → ent 𝓤 (⋆ 𝓤 H A (‵ (L.the-row .own r (z ∷ [])) ∷ (‵ (flft κ₁ q₁) ⊛ (‵ (flft κ₂ q₂) ⊛ ‵ ftrue)) ∷ ‵ (finally E (d .name) zs) ∷ ‵ OwnN ∷ (‵ (flft κ q) ⊛ ‵ ftrue) ∷ ‵ OwnS ∷ [])) (Post z)
         exits r z zs ip e l =
             qed W (‵ (L.the-row .own r (z ∷ [])) ∷ (‵ (flft κ₁ q₁) ⊛ (‵ (flft κ₂ q₂) ⊛ ‵ ftrue)) ∷ ‵ (finally E (d .name) zs) ∷ ‵ OwnN ∷ (‵ (flft κ q) ⊛ ‵ ftrue) ∷ ‵ OwnS ∷ []) ∵
-            suffices ! _ (ends-at 𝓤 H A ended stayed (clauses 𝓤) W (((κ, (κ₁, (κ₂, tt))), (q, (q₁, (q₂, tt))), tt, x, at), tt) z r (tt, (tt, (tt, (zs, tt)))) (tt, (tt, (tt, (l, tt))))) $ says ! e $
+            suffices ! _ (ends-at 𝓤 H A ended stayed (clauses 𝓤) W (((κ, (κ₁, (κ₂, tt))), (q, (q₁, (q₂, tt))), tt, x, at), tt) z r (tt, (I .last p, (tt, (zs, tt)))) (tt, (tt, (tt, (l, tt))))) $ says ! e $
             move ! (4 ∷ []) $ split ! $ move ! (0 ∷ 3 ∷ []) $ join ! $ frame ! $
             -- [true; the result; the last list; what given owns; what t owns]
-            move ! (2 ∷ 0 ∷ []) $ fjoin ! $ move ! (2 ∷ 0 ∷ []) $ fjoin ! $ owned ! P.the-row (Is P.the-row) ((LL.makes P.the-type P′.the-plain) 𝓤 H A) p (vp ∷ []) ip $ fjoin ! $ move ! (2 ∷ 0 ∷ []) $ fjoin ! $ frame ! $ done !
+            move ! (2 ∷ 0 ∷ []) $ fjoin ! $ move ! (2 ∷ 0 ∷ []) $ fjoin ! $ owned ! P (Is P) ((LL.makes Q (I .plain)) 𝓤 H A) p (vp ∷ []) ip $ fjoin ! $ move ! (2 ∷ 0 ∷ []) $ fjoin ! $ frame ! $ done !
 
         module _ (C : Calls 𝓤 H) (Λ : Loops 𝓤 H) (fm : FmC 𝓤 H (W .laws) C) (known-load : Triple 𝓤 (C #g) (Load 𝓤 H A mem run)) (known-core : Triple 𝓤 (C #c) (Core 𝓤 H A)) where
-          walk : Room T.the-row (length (s .now)) → Is P.the-row p (vp ∷ []) → Room N (length (n .now)) → Room E (length (d .now))
+          walk : Room T.the-row (length (s .now)) → Is P p (vp ∷ []) → Room N (length (n .now)) → Room E (length (d .now))
               → ent 𝓤 (onEntry 𝓤 H A signature (κ, (κ₁, (κ₂, tt))) (q, (q₁, (q₂, tt))) x at) (WpFn 𝓤 H C Λ (function #g #c) (vs ∷ vp ∷ vn ∷ vd ∷ []) Post)
           walk room ip room₁ room₂ =
-              qed W ((‵ (flft κ q) ⊛ (‵ (flft κ₁ q₁) ⊛ (‵ (flft κ₂ q₂) ⊛ ‵ ftrue))) ∷ ‵ (owns (ShrSlice (named 0) κ T.the-row ∷ P.the-row ∷ ShrSlice (named 1) κ₁ N ∷ MutSlice (named 2) κ₂ E ∷ []) x at) ∷ []) ∵
+              qed W ((‵ (flft κ q) ⊛ (‵ (flft κ₁ q₁) ⊛ (‵ (flft κ₂ q₂) ⊛ ‵ ftrue))) ∷ ‵ (owns (ShrSlice (named 0) κ T.the-row ∷ P ∷ ShrSlice (named 1) κ₁ N ∷ MutSlice (named 2) κ₂ E ∷ []) x at) ∷ []) ∵
               split ! $ move ! (1 ∷ []) $ split ! $ move ! (1 ∷ []) $ split ! $ move ! (4 ∷ []) $ fsplit ! $ move ! (1 ∷ []) $ fsplit ! $ drop ! $ fsplit ! $ move ! (1 ∷ []) $ fsplit ! $ keep ! (7 ∷ 3 ∷ 6 ∷ 2 ∷ 4 ∷ 0 ∷ []) $
               enter ! C Λ (function #g #c) (vs ∷ vp ∷ vn ∷ vd ∷ []) _ $
               alloc1 ! (λ l₀. alloc1 ! (λ l₁. alloc1 ! (λ l₂. alloc1 ! (λ l₃. alloc1 ! (λ l₄. alloc1 ! (λ l₅. alloc1 ! (λ l₆. alloc1 ! (λ l₇. alloc0 ! $ params1 ! $
-              pass1 ! (init ! 12 refl (tt, (tt, (record { fits = room .0 }, tt)))) $ pass1 ! (init ! 10 refl (LL.lawful P.the-type P′.the-laws 𝓤 H A W .typed p (vp ∷ []) ip .0)) $
+              pass1 ! (init ! 12 refl (tt, (tt, (record { fits = room .0 }, tt)))) $ pass1 ! (init ! 10 refl (LL.lawful Q (I .laws) 𝓤 H A W .typed p (vp ∷ []) ip .0)) $
               pass1 ! (init ! 8 refl (tt, (tt, (record { fits = room₁ .0 }, tt)))) $ pass1 ! (init ! 6 refl (tt, (tt, (record { fits = room₂ .0 }, tt)))) $ pass0 ! $
               -- [_7; …; _6; …; _5; …; _4; …; _3; …; _2; …; _1; …; room for _0; …; κ's token; what t owns; κ₁'s; what given owns; κ₂'s; what out owns]
               move ! (16 ∷ 17 ∷ []) $ use2 W (raw (Load 𝓤 H A mem run .pre (to-load 𝓤 H A mem run κ q s)) ⊛ ‵ OwnS) (asked-load 𝓤 H A mem run κ q s W) $ split ! $
@@ -177,7 +183,7 @@ module _ (N E : RattleType) (ε : Ty) where
               calls-at ! fm (Core 𝓤 H A) known-core (to-core g w) (and-then ! (load ! (from ! (stop !)) (look ! 8 refl)) (and-then ! (load ! (from ! (stop !)) (look ! 14 refl)) (and-then ! (load ! (from ! (stop !)) (look ! 12 refl)) (and-then ! (load ! (from ! (stop !)) (look ! 4 refl)) (no-more !))))) (λ z.
               use1 W (later (some (λ (r : Answer). ((‵ (flft κ₁ q₁) ⊛ (‵ (flft κ₂ q₂) ⊛ ‵ ftrue)) ⊛ ‵ (L.the-row .own r (z ∷ []))) ⊛ raw (ensured 𝓤 H A core-ended (core-clauses 𝓤) (κ₁, (κ₂, tt)) (args g w) tt r)))) (id⊢ 𝓤 _) $ await ! tt $ pick ! (λ r.
               -- what the core ensures, at some last list
-              split ! $ move ! (1 ∷ []) $ use1 W (some (λ (ws : Unit {0} × (Unit {0} × (Unit {0} × (List (E .Denot) × Unit {0})))). ‵ (lasts core-ended (κ₁, (κ₂, tt)) (args g w) ws) ⊛ raw (fact 𝓤 (Says g p (n .now) (d .now) (ws .1 .1 .1 .0) r)))) (id⊢ 𝓤 _) $ pick ! (λ ws.
+              split ! $ move ! (1 ∷ []) $ use1 W (some (λ (ws : Lasts core-ended (κ₁, (κ₂, tt)) (args g w)). ‵ (lasts core-ended (κ₁, (κ₂, tt)) (args g w) ws) ⊛ raw (fact 𝓤 (Says g p (n .now) (d .now) (ws .1 .1 .1 .0) r)))) (id⊢ 𝓤 _) $ pick ! (λ ws.
               split ! $ move ! (1 ∷ []) $ heard ! (Says g p (n .now) (d .now) (ws .1 .1 .1 .0) r) (λ e′. fsplit ! $ drop ! $ fsplit ! $ drop ! $ fsplit ! $ drop ! $ fsplit ! $ fsplit ! $ move ! (1 ∷ []) $ feqL ! (λ l.
               -- [the last list; true; the tokens and the result; what given owns; κ's token; what t owns; _7; …]
               move ! (2 ∷ []) $ split ! $ move ! (1 ∷ []) $ peeks ! L.the-row (Is L.the-row) (shows 𝓤 H A L.the-row) r (z ∷ []) (λ is′.
@@ -189,8 +195,8 @@ module _ (N E : RattleType) (ε : Ty) where
       pub derive-meets : (𝓣 : Tables 𝓤 H) → Triple 𝓤 (𝓣 .C #g) (Load 𝓤 H A mem run) → Triple 𝓤 (𝓣 .C #c) (Core 𝓤 H A)
           → Meets 𝓤 H A signature (WpFn 𝓤 H (𝓣 .C) (𝓣 .Λ) (function #g #c)) (closing 𝓤 H A ended (clauses 𝓤))
       derive-meets 𝓣 kl kc =
-          walk-meets 𝓤 H A ended stayed W (goes-none-slice 𝓤 H A W 3 (0 ∷ []) tt (plain (λ _. T.the-row)) yes, (goes-none 𝓤 H A W 3 (λ _. P.the-row) yes (λ κs x f. refl), (goes-none-slice 𝓤 H A W 3 (1 ∷ []) tt (plain (λ _. N)) yes, (goes-gave-slice 𝓤 H A W 3 2 tt (plain (λ _. E)), tt))))
+          walk-meets 𝓤 H A ended stayed W (goes-none-slice 𝓤 H A W 3 (0 ∷ []) tt (plain (λ _. T.the-row)) yes, (goes-none 𝓤 H A W 3 (λ _. P) yes (λ κs. I .still), (goes-none-slice 𝓤 H A W 3 (1 ∷ []) tt (plain (λ _. N)) yes, (goes-gave-slice 𝓤 H A W 3 2 tt (plain (λ _. E)), tt))))
           (clauses 𝓤) (WpFn 𝓤 H (𝓣 .C) (𝓣 .Λ) (function #g #c)) (WpFn-mono 𝓤 H (W .laws) 𝓣 (function #g #c))
-          (walked 𝓤 H A ended stayed (clauses 𝓤) (WpFn 𝓤 H (𝓣 .C) (𝓣 .Λ) (function #g #c)) (λ κs. (slice-vals, (LL.vals P.the-type P′.the-laws, (slice-vals, (slice-vals, tt)))))
-          (λ κs. (shr-slice-tells (named 0) (κs .0) T.the-row, (LL.tells P.the-type P′.the-laws, (shr-slice-tells (named 1) (κs .1 .0) N, (mut-slice-tells (named 2) (κs .1 .1 .0) E, tt)))))
+          (walked 𝓤 H A ended stayed (clauses 𝓤) (WpFn 𝓤 H (𝓣 .C) (𝓣 .Λ) (function #g #c)) (λ κs. (slice-vals, (LL.vals Q (I .laws), (slice-vals, (slice-vals, tt)))))
+          (λ κs. (shr-slice-tells (named 0) (κs .0) T.the-row, (LL.tells Q (I .laws), (shr-slice-tells (named 1) (κs .1 .0) N, (mut-slice-tells (named 2) (κs .1 .1 .0) E, tt)))))
           (λ κs qs bounds a _ are. via 𝓤 _ (fst∗ 𝓤 _ (emp 𝓤)) (walk (κs .0) (κs .1 .0) (κs .1 .1 .0) (qs .0) (qs .1 .0) (qs .1 .1 .0) (a .0) (a .1 .0) (a .1 .1 .0) (a .1 .1 .1 .0) (𝓣 .C) (𝓣 .Λ) (fmOf 𝓤 H (W .laws) 𝓣) kl kc (are .0 .0 .1) (are .1 .0) (are .1 .1 .0 .0 .1) (are .1 .1 .1 .0 .0 .1))))

@@ -1,5 +1,6 @@
 pub mod Loading
 pub mod Numbers
+pub mod Tells
 pub mod Judges
 pub mod Fills
 pub mod Derives

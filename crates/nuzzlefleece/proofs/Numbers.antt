@@ -14,6 +14,10 @@ use Rattle.following.proofs.Watch as watch
 use Rattle.following.proofs.Watch.Laws as watch′
 use Rattle.following.proofs.Screen as screen
 use Rattle.following.proofs.Screen.Laws as screen′
+use Rattle.reasons.proofs.Question as question
+use Rattle.reasons.proofs.Question.Laws as question′
+use Rattle.reasons.proofs.Reason as reason
+use Rattle.reasons.proofs.Reason.Laws as reason′
 use Rattle.nuzzlefleece.proofs.Save as save
 use Rattle.nuzzlefleece.proofs.Save.Laws as save′
 
@@ -39,3 +43,9 @@ watches = record { type = watch.the-type; laws = watch′.the-laws; plain = watc
 
 abbrev pub screens : Numbers
 screens = record { type = screen.the-type; laws = screen′.the-laws; plain = screen′.the-plain; last = λ p. tt; still = λ p l. refl }
+
+abbrev pub questions : Numbers
+questions = record { type = question.the-type; laws = question′.the-laws; plain = question′.the-plain; last = λ p. tt; still = λ p l. refl }
+
+abbrev pub reasons : Numbers
+reasons = record { type = reason.the-type; laws = reason′.the-laws; plain = reason′.the-plain; last = λ p. tt; still = λ p l. refl }

@@ -18,6 +18,10 @@ use Rattle.estimates.specs.Earliest.{Earliest}
 use Rattle.estimates.proofs.Only as estimates
 use Rattle.settle.specs.Settle.{Settling}
 use Rattle.settle.proofs.Only as settle
+use Rattle.reasons.specs.declared.Question.{Question}
+use Rattle.reasons.specs.declared.Reason.{Reason}
+use Rattle.reasons.specs.Reasons.{WhyStart, WhyNoPlan}
+use Rattle.reasons.proofs.Only as reasons
 use Rattle.planning.specs.Planning.{PlansWithin, BoundsWithin}
 use Rattle.planning.proofs.Only as planning
 use Rattle.jobfile.specs.Calls.{Writes}
@@ -59,6 +63,13 @@ module _ (ts : List Action) (q : Ask) (r s : Answer) where
 -- what the screen is handed is one struct
 pub follow-only : (ts : List Action) (w : Watch) (starts : List ℕ) (r s : Screen) → Following (loaded ts) w starts r → Following (loaded ts) w starts s → r ≡ s
 follow-only ts w starts r s = following.follow-only (loaded ts) w starts r s
+
+-- what is asked of a start is one struct, and so is the reason
+pub why-start-only : (ts : List Action) (q : Question) (pairs old new new′ : List ℕ) (r s : Answer) → WhyStart (loaded ts) q pairs old new r → WhyStart (loaded ts) q pairs old new′ s → (r ≡ s) × (new ≡ new′)
+why-start-only ts q pairs old new new′ r s = reasons.why-start-only (loaded ts) q pairs old new new′ r s
+
+pub why-no-plan-only : (ts : List Action) (q : Ask) (r s : Reason) → WhyNoPlan (loaded ts) q r → WhyNoPlan (loaded ts) q s → r ≡ s
+why-no-plan-only ts q r s = reasons.why-no-plan-only (loaded ts) q r s
 
 -- what is saved is one struct
 pub write-file-only : (ts : List Action) (w : Save) (old new new′ : List ℕ) (r s : Answer) → Writes (loaded ts) (w .ask) (w .used) old new r → Writes (loaded ts) (w .ask) (w .used) old new′ s → (r ≡ s) × (new ≡ new′)

@@ -19,6 +19,7 @@ use Rattle.tables.specs.declared.Ask.{Ask}
 use Rattle.tables.specs.declared.Action.{Action}
 use Rattle.tables.specs.declared.Answer.{Answer}
 use Rattle.tables.specs.Tables.{problem, answerOf, Fills, callChecks}
+use Rattle.tables.proofs.Laws.{accepts}
 use Rattle.tables.proofs.Calls.{call-checks}
 use Rattle.verdict.specs.Offered.{offered, ChecksPlan}
 use Rattle.verdict.proofs.Accepted.{offered-checks}
@@ -28,8 +29,16 @@ use Rattle.following.specs.declared.Watch.{Watch}
 use Rattle.following.specs.declared.Screen.{Screen}
 use Rattle.following.specs.Screens.{Following}
 use Rattle.estimates.specs.Earliest.{Earliest}
-use Rattle.settle.specs.Settle.{Settling}
+use Rattle.settle.specs.Settle.{settlingChecks, Settling}
 use Rattle.settle.proofs.Faults.{all-checks}
+use Rattle.rules.specs.declared.Hindrance.{Hindrance}
+use Rattle.rules.specs.declared.Hindrance.the-variants.{Never, TooDear, Neither}
+use Rattle.rules.specs.Table.{Problem}
+use Rattle.rules.specs.Settling.{Asked}
+use Rattle.rules.specs.Reasons.{Explained, unsettled, outside, explained, hindranceOf}
+use Rattle.reasons.specs.declared.Question.{Question}
+use Rattle.reasons.specs.declared.Reason.{Reason}
+use Rattle.reasons.specs.Reasons.{WhyStart, reasonOf, reasonVerdict, WhyNoPlan}
 use Rattle.planning.specs.Planning.{PlansWithin, BoundsWithin}
 use Rattle.tenths.specs.Tenths.{inRange}
 use Rattle.readings.specs.declared.BenchReading.{BenchReading}
@@ -119,6 +128,30 @@ module _ (l : Loaded) (q : Ask) (r : Answer) where
 
 pub follow-second : (l : Loaded) (w : Watch) (s : List ℕ) (r : Screen) → Following l w s r → Told12 (r .answer)
 follow-second l w s r x = answered (offered false l (w .ask) s (x .v)) 0 0 (behind (offered-checks false l (w .ask) s) (x .v) (λ e z. no-second _ _ _ _ _ _ _ _ _ _ _ (x .behind e))) (x .says)
+
+-- ── reasons ──
+
+explained-second : {P : Problem} {q : Asked} {j : ℕ} {v : Verdict} {m : List ℕ} → Explained P q j v m → Second v
+explained-second (unsettled n) z = refl
+explained-second (outside f n) z = refl
+explained-second (explained f t c) z = refl
+
+pub why-start-second : (l : Loaded) (q : Question) (bytes old new : List ℕ) (r : Answer) → WhyStart l q bytes old new r → Told12 r
+why-start-second l q bytes old new r x =
+    let k = all-checks l (q .ask) bytes (length old) in
+    answered (settlingChecks l (q .ask) bytes (length old) (x .v)) (length (x .chain)) 0 (behind k (x .v) (λ e. explained-second (x .behind e))) (x .says)
+
+pub why-no-plan-second : (l : Loaded) (q : Ask) (r : Reason) → WhyNoPlan l q r → Told12 (r .answer)
+why-no-plan-second l q r x = go (ℕ-discrete (reasonVerdict l q .number) 0)
+  where
+    of : (h : Hindrance) → Told12 (reasonOf h .answer)
+    of (Never p) z = refl
+    of (TooDear p) z = refl
+    of Neither z = refl
+
+    go : Dec (reasonVerdict l q .number ≡ 0) → Told12 (r .answer)
+    go (yes z) = subst (λ (s : Reason). Told12 (s .answer)) (sym (x .tells (accepts (call-checks false (q .bound) l q) z) .1)) (of (hindranceOf (problem l q) (x .est) (q .bound)))
+    go (no n) = answered (reasonVerdict l q) 0 0 (seconds (callChecks false (q .bound) l q) (call-checks false (q .bound) l q) accepted none) (ap (λ (s : Reason). s .answer) (x .refuses n))
 
 -- ── files and readings ──
 

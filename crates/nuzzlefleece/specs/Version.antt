@@ -2,6 +2,6 @@
 -- Assumes nothing.
 use Prim.Native.Nat.{ℕ}
 
--- 1.6.0, as the header has it
+-- 1.7.0, as the header has it
 abbrev pub version : ℕ
-version = 10600
+version = 10700

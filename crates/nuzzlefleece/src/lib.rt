@@ -8,6 +8,7 @@ ghost use Rattle.bindings.specs.Bindings.{Supports, Pairs};
 ghost use Rattle.following.specs.Screens.{Following};
 ghost use Rattle.estimates.specs.Earliest.{Earliest};
 ghost use Rattle.settle.specs.Settle.{Settling};
+ghost use Rattle.reasons.specs.Reasons.{WhyStart, WhyNoPlan};
 ghost use Rattle.planning.specs.Planning.{PlansWithin, BoundsWithin};
 ghost use Rattle.jobfile.specs.Calls.{Writes};
 ghost use Rattle.jobfile.specs.Tidy.{Tidies};
@@ -22,6 +23,8 @@ use following::Watch;
 use jobfile::Read;
 use readings::BenchReading;
 use readings::Opening;
+use reasons::Question;
+use reasons::Reason;
 use rules::ClashNumbers;
 use tables::Action;
 use tables::Answer;
@@ -33,7 +36,7 @@ use tables::Loaded;
 pub extern "C" fn nuzzlefleece_version() -> u32
     ensures { λ r. ⌜ r ≡ version ⌝ }
 {
-    10600
+    10700
 }
 
 // The verdict on an offered plan.
@@ -124,6 +127,29 @@ pub extern "C" fn nuzzlefleece_settle(t: &[Action], q: Ask, pairs: &[u8], out: &
 {
     let l = records::load(t);
     settle::settle(l, q, pairs, out)
+}
+
+// The chain of asked pairs that ends at a job of settled starts, first job first, and how many jobs it has.
+#[no_mangle]
+pub extern "C" fn nuzzlefleece_why_start(
+    t: &[Action],
+    q: Question,
+    pairs: &[u8],
+    out: &mut [u8],
+) -> Answer
+    ensures { λ r. ⌜ WhyStart (loaded (now (t .entry))) q (now (pairs .entry)) (now (out .entry)) (now (out .exit)) r ⌝ }
+{
+    let l = records::load(t);
+    reasons::why_start(l, q, pairs, out)
+}
+
+// Why there is no plan within the bound: a goal never reachable, a goal above the bound, or neither.
+#[no_mangle]
+pub extern "C" fn nuzzlefleece_why_no_plan(t: &[Action], q: Ask) -> Reason
+    ensures { λ r. ⌜ WhyNoPlan (loaded (now (t .entry))) q r ⌝ }
+{
+    let l = records::load(t);
+    reasons::why_no_plan(l, q)
 }
 
 // What reading a job file says beside the records.

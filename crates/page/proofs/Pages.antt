@@ -16,11 +16,10 @@ use Rattle.refusals.proofs.Refused.{if-hit, if-pass}
 use Rattle.tables.specs.declared.Loaded.{Loaded}
 use Rattle.tables.specs.declared.Ask.{Ask}
 use Rattle.tables.specs.declared.Answer.{Answer}
-use Rattle.tables.specs.Tables.{problem, answerOf, changed}
+use Rattle.tables.specs.Tables.{problem, answerOf, changed, written}
 use Rattle.tables.proofs.Lent.{filled-at}
 use Rattle.tables.proofs.Calls.{cleared}
 use Rattle.verdict.specs.Steps.{Given}
-use Rattle.bindings.specs.Bindings.{written}
 use Rattle.planning.specs.Planning.{BoundsWithin}
 use Rattle.planning.proofs.Found.{bound-found}
 use Rattle.bytes_le.specs.Little.{atFront}

@@ -1,3 +1,4 @@
 pub mod Tests
 pub mod Faults
+pub mod Starts
 pub mod Only

@@ -13,13 +13,13 @@ ghost use Rattle.tables.specs.Steps.{Judges};
 ghost use Rattle.tables.specs.declared.Loaded.{Loaded};
 ghost use Rattle.times.specs.Times.{pairFirst, pairSecond};
 ghost use Rattle.settle.specs.Settle.{settlingChecks, Settling};
-ghost use Rattle.settle.specs.Steps.{Settleable};
+ghost use Rattle.settle.specs.Steps.{Settleable, Settlements};
 use tables::Answer;
 use tables::Ask;
 use tables::Loaded;
 
 // Job j is in the set.
-fn in_set(set: u64, j: u8) -> bool
+pub fn in_set(set: u64, j: u8) -> bool
     ensures { λ r. ⌜ r ≡ has set j ⌝ }
 {
     if 64 <= j {
@@ -90,20 +90,44 @@ fn settle_fault(l: Loaded, q: Ask, pairs: &[u8], out: usize) -> Answer
     pairs_fault(q, pairs)
 }
 
+// What settling says, and the starts where it accepts.
+pub struct Settlement {
+    pub answer: Answer,
+    pub starts: [u16; 24],
+}
+
+// The least starts by value; `room` is how many numbers are lent for them.
+pub fn settled(l: Loaded, q: Ask, pairs: &[u8], room: usize) -> Settlement
+    ensures { λ r. ⌜ Settlements l q (now (pairs .entry)) room r ⌝ }
+{
+    let answer = settle_fault(l, q, pairs, room);
+    if answer.number != 0 {
+        let starts = [65535u16; 24];
+        return Settlement { answer, starts };
+    }
+    let r = times::least_starts(l, q, pairs);
+    let starts = r.starts;
+    let ok = r.ok;
+    if !ok {
+        let none = tables::refuse(16, 0, 0);
+        return Settlement {
+            answer: none,
+            starts,
+        };
+    }
+    Settlement { answer, starts }
+}
+
 // The least starts, one a job, into lent memory.
 pub fn settle(l: Loaded, q: Ask, pairs: &[u8], out: &mut [u16]) -> Answer
     ensures { λ r. ⌜ Settling l q (now (pairs .entry)) (now (out .entry)) (now (out .exit)) r ⌝ }
 {
-    let fault = settle_fault(l, q, pairs, out.len());
-    if fault.number != 0 {
-        return fault;
-    }
-    let r = times::least_starts(l, q, pairs);
-    let ok = r.ok;
-    if !ok {
-        return tables::refuse(16, 0, 0);
+    let r = settled(l, q, pairs, out.len());
+    let answer = r.answer;
+    if answer.number != 0 {
+        return answer;
     }
     let starts = r.starts;
     entries::fill(out, starts, q.jobs);
-    tables::done(0)
+    answer
 }

@@ -5,7 +5,7 @@ use mathlib.Core.Bool.{Bool, _||_, cond}
 use mathlib.Core.List.{List}
 use Prim.Native.Nat.{ℕ, zero, suc, _-_}
 use lib.Dec.{eqb, ltb}
-use lib.ListN.{getD, set, replicate}
+use lib.ListN.{length, getD, set, replicate}
 use Rattle.refusals.specs.Refusals.{Verdict, accepted, refuseIf}
 use Rattle.rules.specs.Table.{Problem, tableChecks, boundCheck}
 use Rattle.tables.specs.declared.Action.{Action}
@@ -57,6 +57,10 @@ answerOf v yea nay = record { number = v .number; second = v .second; place = v 
 unfoldable pub filled : {A : Type 0} → (ℕ → A) → ℕ → List A → List A
 filled f zero xs = xs
 filled f (suc k) xs = set (filled f k xs) k (f k)
+
+-- lent bytes whose first places hold the list xs; the rest is as it was
+abbrev pub written : (xs old : List ℕ) → List ℕ
+written xs old = filled (λ i. getD xs i 0) (length xs) old
 
 -- the table by value of the jobs f 0 to f (n - 1), where `lent` records were lent; empty records behind them
 abbrev pub tabled : (f : ℕ → Action) (n lent : ℕ) → Loaded

@@ -18,7 +18,8 @@ pub struct Outcome {
     pub starts: [u16; 24],
 }
 
-fn job(x: u8) -> usize
+// A byte as the number of a job.
+pub fn job(x: u8) -> usize
     ensures { λ r. ⌜ r ≡ x ⌝ }
 {
     x as usize

@@ -1,8 +1,10 @@
 //! Slow ways, for the self-test only. To the first plan: every start vector in the stated order, and every order
 //! of jobs with each job as early as the ones before it and its release allow. To estimates and settled starts:
-//! every start vector. To clashes: every fact; to overlaps: every quarter hour. To what events are allowed: every log.
+//! every start vector. To clashes: every fact; to overlaps: every quarter hour. To what events are allowed: every log. To
+//! the chain of a job: every sequence of jobs; to what goals cost: every quarter hour.
 
 use crate::following::{Event, Worked};
+use crate::reasons::Reason;
 use crate::rules::{check_plan, facts_seen, finish, interfere, is_in, over, Clash, Job, Problem, FACTS, OUT};
 use std::collections::BTreeMap;
 
@@ -200,4 +202,66 @@ pub fn every_log(worked: &Worked) -> Logs {
         }
     }
     logs
+}
+
+/// Every sequence of these jobs that is no longer than they are many, also with a job more than once.
+pub fn sequences(jobs: &[usize]) -> Vec<Vec<usize>> {
+    let (mut all, mut longest) = (Vec::new(), vec![vec![]]);
+    for _ in jobs {
+        longest = longest
+            .iter()
+            .flat_map(|sequence: &Vec<usize>| jobs.iter().map(move |&job| [&sequence[..], &[job]].concat()))
+            .collect();
+        all.extend(longest.clone());
+    }
+    all
+}
+
+/// Whether a sequence of jobs explains the start of its last job, place by place: the first job and no other starts at
+/// its release, and before each other stands the lowest job that fits.
+pub fn explains(problem: &Problem, starts: &[u16], pairs: &[u8], sequence: &[usize]) -> bool {
+    let jobs = problem.jobs;
+    let fits = |first: usize, second: usize| {
+        let asked = pairs.chunks_exact(2).any(|pair| pair == [first as u8, second as u8]);
+        asked && starts[second] as u32 == finish(&jobs[first], starts[first]) + problem.gap as u32
+    };
+    let named = |first, second| fits(first, second) && !(0..first).any(|other| fits(other, second));
+    let released = |place: usize| starts[sequence[place]] == jobs[sequence[place]].release;
+    (0..sequence.len()).all(|place| match place {
+        0 => released(0),
+        _ => !released(place) && named(sequence[place - 1], sequence[place]),
+    })
+}
+
+/// When each fact is first there if nothing is ever deleted and each job starts once it is released and sees what it
+/// needs, looked at quarter hour by quarter hour until all that can come has come; nothing for a fact that never is.
+pub fn first_times(problem: &Problem) -> Vec<Option<u32>> {
+    let open = |fact: usize| problem.opening >> fact & 1 == 1;
+    let mut first: Vec<Option<u32>> = (0..FACTS).map(|fact| open(fact).then_some(0)).collect();
+    let mut waiting: Vec<&Job> = problem.jobs.iter().collect();
+    let lengths: u32 = waiting.iter().map(|job| job.duration as u32 + problem.gap as u32).sum();
+    let last = lengths + waiting.iter().map(|job| job.release as u32).max().unwrap_or(0);
+    for time in 0..=last {
+        let seen = |fact: usize| open(fact) || first[fact].is_some_and(|at| at + problem.gap as u32 <= time);
+        let starts = |job: &Job| {
+            job.release as u32 <= time && (0..FACTS).all(|fact| job.conditions >> fact & 1 == 0 || seen(fact))
+        };
+        let (starting, others): (Vec<&Job>, Vec<&Job>) = waiting.into_iter().partition(|job| starts(job));
+        for job in starting {
+            let over = time + job.duration as u32;
+            let added = (0..FACTS).filter(|fact| job.additions >> fact & 1 == 1);
+            added.for_each(|fact| first[fact] = Some(first[fact].map_or(over, |at| at.min(over))));
+        }
+        waiting = others;
+    }
+    first
+}
+
+/// All facts are looked at for a goal that is never there, then all for one that is there too late.
+pub fn reason(problem: &Problem) -> Reason {
+    let first = first_times(problem);
+    let goal = |fact: &usize| problem.goals >> fact & 1 == 1;
+    let never = (0..FACTS).filter(goal).find(|&fact| first[fact].is_none());
+    let late = (0..FACTS).filter(goal).find(|&fact| first[fact] > Some(problem.bound as u32));
+    never.map(Reason::Never).or(late.map(Reason::TooDear)).unwrap_or(Reason::Neither)
 }

@@ -4,6 +4,7 @@ use crate::files::{job_bytes, job_from, read_file, tidy, write_file, Saved};
 use crate::following::{follow, Watch};
 use crate::plan::{least_bound, plan_within};
 use crate::readings::{opening_facts, Marks, Reading};
+use crate::reasons::{why_no_plan, why_start, Reason};
 use crate::rules::{
     binding_pairs, check_offered, clash, estimates, settle, supports, Clash, Given, Job, Refusal, FACTS, OUT,
 };
@@ -94,6 +95,17 @@ fn told_clash(clash: Clash) -> String {
     format!("{kind} {}", clash.fact().unwrap_or(FACTS))
 }
 
+/// The number of the kind and the fact, 64 for neither; on refusal there is no reason.
+fn told_reason(reason: Option<Reason>) -> String {
+    let (kind, fact) = match reason {
+        None => (0, FACTS),
+        Some(Reason::Never(fact)) => (1, fact),
+        Some(Reason::TooDear(fact)) => (2, fact),
+        Some(Reason::Neither) => (3, FACTS),
+    };
+    format!("{kind} {fact}")
+}
+
 impl Call {
     fn given(&self) -> Given<'_> {
         Given {
@@ -135,6 +147,11 @@ impl Call {
             11 => self.answer_clash(),
             12 => self.answer_in_buffer(|buffer| tidy(buffer, self.head[6])),
             13 => self.answer_following(),
+            14 => self.answer_in_bytes(|table| {
+                let [set, pair_count, job] = [6, 7, 13].map(|word| self.head[word]);
+                why_start(&self.given(), set, pair_count, &self.table, job as u8, table)
+            }),
+            15 => self.answer_no_plan(),
             _ => unknown(),
         }
     }
@@ -190,6 +207,12 @@ impl Call {
         let (result, screen) = follow(&self.given(), &halves(&self.table), &watch);
         let words = [screen.started, screen.finished, screen.facts, screen.may_start];
         format!("{} {}", told(&result, 0), words.map(|word| word.to_string()).join(" "))
+    }
+
+    /// The answer, then the reason.
+    fn answer_no_plan(&self) -> String {
+        let reason = why_no_plan(&self.given());
+        format!("{} {}", told(&reason.map(|_| 0), 0), told_reason(reason.ok()))
     }
 }
 

@@ -8,6 +8,7 @@ mod files;
 mod following;
 mod plan;
 mod readings;
+mod reasons;
 mod rules;
 mod selftest;
 

@@ -503,7 +503,31 @@ fn least_starts(problem: &Problem, set: u64, pairs: &[u8]) -> Option<Vec<u16>> {
     }
 }
 
-/// Fills the least start of every job in the set, out for the others.
+/// A settling in order: its table, the least start of every job in the set, out for the others, and the pairs that count.
+pub struct Settled<'a> {
+    pub problem: Problem<'a>,
+    pub starts: Vec<u16>,
+    pub pairs: &'a [u8],
+}
+
+/// Refusals 3 (pairs and records), 4 to 9 and 20, then 15 and 16.
+pub fn settled<'a>(
+    given: &Given<'a>,
+    set: u64,
+    pair_count: u64,
+    pairs: &'a [u8],
+) -> Result<Settled<'a>, Refusal> {
+    check_lent(pairs.len(), pair_count.saturating_mul(2))?;
+    let problem = check_bounded_table(given)?;
+    let pairs = &pairs[..2 * pair_count as usize];
+    check_asked(problem.jobs.len(), set, pair_count, pairs)?;
+    match least_starts(&problem, set, pairs) {
+        Some(starts) => Ok(Settled { problem, starts, pairs }),
+        None => refuse(16, 0),
+    }
+}
+
+/// Fills one start a job.
 pub fn settle(
     given: &Given,
     set: u64,
@@ -512,13 +536,7 @@ pub fn settle(
     table: &mut [u16],
 ) -> Result<(), Refusal> {
     check_lent(table.len(), given.count)?;
-    check_lent(pairs.len(), pair_count.saturating_mul(2))?;
-    let problem = check_bounded_table(given)?;
-    let pairs = &pairs[..2 * pair_count as usize];
-    check_asked(problem.jobs.len(), set, pair_count, pairs)?;
-    match least_starts(&problem, set, pairs) {
-        Some(starts) => table[..starts.len()].copy_from_slice(&starts),
-        None => return refuse(16, 0),
-    }
+    let starts = settled(given, set, pair_count, pairs)?.starts;
+    table[..starts.len()].copy_from_slice(&starts);
     Ok(())
 }

@@ -7,6 +7,7 @@ use crate::files::{job_bytes, read_file, tidy, write_file, Saved};
 use crate::following::{follow, Event, Screen, Watch, Worked};
 use crate::plan::{least_bound, plan_within};
 use crate::readings::{opening_facts, tenths, Marks, Reading};
+use crate::reasons::{reason, why_no_plan, why_start, Reason};
 use crate::rules::{
     binding_pairs, check_bounded_table, check_offered, check_plan, clash, estimates, facts_at, job_estimates,
     members, pairs_of, settle, supports, Clash, Given, Job, Problem, Refusal, NO_SUPPORT, OUT, START,
@@ -56,6 +57,8 @@ pub fn run() -> ExitCode {
     test_following(&mut tally);
     test_estimates(&mut tally);
     test_settling(&mut tally);
+    test_why_start(&mut tally);
+    test_why_no_plan(&mut tally);
     test_gap_as_length(&mut tally);
     test_table_checks(&mut tally);
     test_rule_marks(&mut tally);
@@ -909,20 +912,329 @@ fn test_settling_against_start_vectors(tally: &mut Tally) {
     }
 }
 
-/// What every call on an offered plan, its estimates and its settling say.
+/// A settling, of which starts are to be explained.
+struct Settling {
+    example: Example,
+    set: u64,
+    pairs: Vec<u8>,
+}
+
+impl Settling {
+    /// The job's chain must be this, or the refusal; what it does not fill stays as it was.
+    fn check(&self, tally: &mut Tally, what: &str, job: u8, wanted: Result<&[u8], Refusal>) {
+        let mut table = vec![99; self.example.jobs.len() + 1];
+        let pair_count = self.pairs.len() as u64 / 2;
+        let found = why_start(&self.example.given(), self.set, pair_count, &self.pairs, job, &mut table);
+        let mut expected = wanted.unwrap_or_default().to_vec();
+        expected.resize(table.len(), 99);
+        let wanted = (wanted.map(|chain| chain.len() as u64), expected);
+        tally.same(&format!("{what}, job {job}"), (found, table), wanted);
+    }
+}
+
+fn test_why_start(tally: &mut Tally) {
+    test_chains_of_p3(tally);
+    test_lowest_that_fits(tally);
+    test_why_start_refusals(tally);
+    test_chains_by_sequences(tally);
+    test_chains_of_many_jobs(tally);
+}
+
+/// The binding pairs of P3: drench waits for wash, which waits for unpack. A release that a job starts at ends its chain.
+fn test_chains_of_p3(tally: &mut Tally) {
+    let mut check = |what: &str, example: Example, job: u8, chain: &[u8]| {
+        let pairs = vec![0, 1, 0, 2, 0, 3, 3, 1];
+        Settling { example, set: 0b1111, pairs }.check(tally, what, job, Ok(chain));
+    };
+    let plain = jobs_u(&[], 20);
+    for (example, over) in [(plain.clone(), 7), (plain.under_rule_2(), 9)] {
+        for (job, chain) in [(0, &[0][..]), (1, &[0, 3, 1]), (2, &[0, 2]), (3, &[0, 3])] {
+            check("P3", example.clone(), job, chain);
+        }
+        let late = example.released(&[0, 0, 6, 0]);
+        check("late crate", late.clone(), 2, &[2]);
+        check("beside the late crate", late, 1, &[0, 3, 1]);
+        check("released sooner", example.released(&[0, over - 1]), 1, &[0, 3, 1]);
+        check("released when wash is over", example.released(&[0, over]), 1, &[1]);
+        check("released later", example.released(&[0, over + 1]), 1, &[1]);
+        check("unpack released", example.released(&[5]), 1, &[0, 3, 1]);
+    }
+    check("released when unpack is over", plain.released(&[0, 0, 0, 4]), 1, &[3, 1]);
+    check("the same under rule 2", plain.released(&[0, 0, 0, 4]).under_rule_2(), 1, &[0, 3, 1]);
+    check("with the gap", plain.released(&[0, 0, 0, 5]).under_rule_2(), 1, &[3, 1]);
+}
+
+/// Of several that fit the lowest job is named, in whatever order the pairs are asked and however often.
+fn test_lowest_that_fits(tally: &mut Tally) {
+    let jobs = [2, 3, 3, 1, 3].map(|duration| job(&[], &[0], &[], duration)).to_vec();
+    let example = Example { jobs, atoms: 1, opening: 0, goals: 0, bound: 9 };
+    for (pairs, chain) in [
+        (vec![2, 3, 1, 3, 0, 3], &[1, 3][..]),
+        (vec![4, 3, 2, 3, 4, 3, 2, 3], &[2, 3]),
+        (vec![0, 3], &[0, 3]),
+        (vec![0, 3, 4, 3, 4, 1], &[4, 3]),
+        (vec![0, 3, 3, 0], &[]),
+    ] {
+        let wanted = if chain.is_empty() { refused(16, 0) } else { Ok(chain) };
+        Settling { example: example.clone(), set: 0b11111, pairs }.check(tally, "several", 3, wanted);
+    }
+}
+
+/// The set is looked at for the job last of all.
+fn test_why_start_refusals(tally: &mut Tally) {
+    let asked =
+        |bound, set, pairs: &[u8]| Settling { example: jobs_u(&[], bound), set, pairs: pairs.to_vec() };
+    for job in [2, 4, 23, 24, 63, 64, 65, 255] {
+        asked(9, 0b1011, &[0, 1]).check(tally, "not in the set", job, refused(27, job as u64));
+    }
+    for job in [0, 3, 64, 255] {
+        asked(0, 0, &[]).check(tally, "nothing in the set", job, refused(27, job as u64));
+    }
+    asked(9, 0b1011, &[0, 1]).check(tally, "in no pair", 3, Ok(&[3]));
+    asked(5, 0b1011, &[0, 1]).check(tally, "16 before 27", 2, refused(16, 0));
+    asked(5, 0b1011, &[0, 1, 0, 2]).check(tally, "15 before 16", 2, refused(15, 1));
+    asked(5, 0b11011, &[0, 2]).check(tally, "15, the set", 2, refused(15, 601));
+    asked(5, 0b1011, &[2; 1_202]).check(tally, "15, 601 pairs", 2, refused(15, 600));
+    asked(9, 0b1011, &[0, 1].repeat(600)).check(tally, "600 pairs", 1, Ok(&[0, 1]));
+    asked(2_881, 1 << 63, &[]).check(tally, "9 before 15", 2, refused(9, 0));
+    let late = jobs_u(&[], 2_881);
+    let lent = |pair_count, table: &mut [u8]| why_start(&late.given(), 1, pair_count, &[0, 1, 0], 9, table);
+    tally.same("short chain", lent(1, &mut [0; 3]), refused(3, 0));
+    tally.same("short pairs", lent(2, &mut [0; 4]), refused(3, 0));
+    tally.same("more pairs than bytes", lent(u64::MAX, &mut [0; 4]), refused(3, 0));
+}
+
+/// Pairs of jobs in a drawn order, so that none go in a circle.
+fn rising_pairs(dice: &mut Dice, inside: &[usize], count: u64) -> Vec<u8> {
+    let mut order: Vec<u8> = inside.iter().map(|&job| job as u8).collect();
+    for place in (1..order.len()).rev() {
+        order.swap(place, dice.below(place as u64 + 1) as usize);
+    }
+    let pair = |_| {
+        let (one, other) = (dice.below(order.len() as u64) as usize, dice.below(order.len() as u64) as usize);
+        (one != other).then(|| [order[one.min(other)], order[one.max(other)]])
+    };
+    (0..count).filter_map(pair).flatten().collect()
+}
+
+/// Of all sequences of jobs of the set exactly one explains each start, where the starts are found by start vectors.
+fn test_chains_by_sequences(tally: &mut Tally) {
+    let mut dice = Dice(0x0c4a_1250_f7e4_5011);
+    for number in 0..6_000 {
+        let (jobs, bound) = if number % 4 < 2 { (5, 8) } else { (4, 9) };
+        let example = Example { bound, ..dice.table(jobs, 3, 2, 0) };
+        let example = if number % 3 == 0 { example } else { dice.with_releases(&example, 5) };
+        let example = if number % 2 == 0 { example } else { example.under_rule_2() };
+        let count = example.jobs.len() as u64;
+        let set = (dice.next() | dice.next() | dice.next()) & ((1 << count) - 1);
+        let inside: Vec<usize> = members(set).collect();
+        let asked = if set == 0 { 0 } else { dice.below(3 * count) };
+        let pairs = rising_pairs(&mut dice, &inside, asked);
+        check_by_sequences(tally, &Settling { example, set, pairs }, &inside);
+    }
+}
+
+fn check_by_sequences(tally: &mut Tally, settling: &Settling, inside: &[usize]) {
+    let problem = check_bounded_table(&settling.example.given()).expect("random tables pass the checks");
+    let starts = brute::settled(&problem, settling.set, &settling.pairs);
+    let explaining: Vec<Vec<usize>> = match &starts {
+        Some(starts) => brute::sequences(inside)
+            .into_iter()
+            .filter(|sequence| brute::explains(&problem, starts, &settling.pairs, sequence))
+            .collect(),
+        None => vec![],
+    };
+    for job in (0..=problem.jobs.len()).chain([63, 64, 255]) {
+        let of_job: Vec<&Vec<usize>> = explaining.iter().filter(|chain| chain.last() == Some(&job)).collect();
+        let explained = (starts.is_some() && inside.contains(&job)) as usize;
+        tally.same("sequences that explain a start", of_job.len(), explained);
+        let chain: Vec<u8> = of_job.iter().flat_map(|chain| chain.iter().map(|&job| job as u8)).collect();
+        let wanted = match starts {
+            None => refused(16, 0),
+            Some(_) if chain.is_empty() => refused(27, job as u64),
+            Some(_) => Ok(&chain[..]),
+        };
+        settling.check(tally, "chain by sequences", job as u8, wanted);
+    }
+}
+
+/// Of up to 24 jobs with many pairs, some released just when they start anyway, each chain explains its job's start.
+fn test_chains_of_many_jobs(tally: &mut Tally) {
+    let mut dice = Dice(0x0024_c4a1_25a1_1e01);
+    for number in 0..600 {
+        let example = Example { bound: 2_880, ..dice.table(24, 9, 1 + number % 3, 0) };
+        let example = dice.with_releases(&example, number % 20);
+        let example = if number % 2 == 0 { example } else { example.under_rule_2() };
+        let inside: Vec<usize> = (0..example.jobs.len()).collect();
+        let pairs = rising_pairs(&mut dice, &inside, if inside.is_empty() { 0 } else { 20 + number % 60 });
+        let set = (1 << inside.len()) - 1;
+        let mut starts = vec![0; inside.len()];
+        let result = settle(&example.given(), set, pairs.len() as u64 / 2, &pairs, &mut starts);
+        tally.same("many jobs settled", result, Ok(()));
+        let late = example.jobs.iter().zip(&starts);
+        let releases: Vec<u16> =
+            late.map(|(job, &start)| if dice.below(6) == 0 { start } else { job.release }).collect();
+        check_explained(tally, &Settling { example: example.released(&releases), set, pairs }, &starts);
+    }
+}
+
+/// The chains of all jobs, looked at place by place.
+fn check_explained(tally: &mut Tally, settling: &Settling, starts: &[u16]) {
+    let given = settling.example.given();
+    let problem = check_bounded_table(&given).expect("random tables pass the checks");
+    for job in 0..starts.len() {
+        let mut table = vec![99; starts.len()];
+        let pair_count = settling.pairs.len() as u64 / 2;
+        let count = why_start(&given, settling.set, pair_count, &settling.pairs, job as u8, &mut table);
+        let filled = &table[..count.unwrap_or(0) as usize];
+        let chain: Vec<usize> = filled.iter().map(|&job| job as usize).collect();
+        let explains = brute::explains(&problem, starts, &settling.pairs, &chain);
+        tally.check("a chain of many jobs", explains && chain.last() == Some(&job));
+        tally.check("the bytes behind it", table[chain.len()..].iter().all(|&byte| byte == 99));
+    }
+}
+
+fn test_why_no_plan(tally: &mut Tally) {
+    test_reasons(tally);
+    test_lowest_goals(tally);
+    test_reason_refusals(tally);
+    test_reasons_against_start_vectors(tally);
+    test_reasons_by_quarter_hours(tally);
+}
+
+/// The cases of the rules: what a goal costs by the estimates, and tables without a plan of which they say nothing.
+fn test_reasons(tally: &mut Tally) {
+    let mut same = |what: &str, example: &Example, wanted: Reason| {
+        tally.same(what, why_no_plan(&example.given()), Ok(wanted));
+    };
+    same("P1", &jobs_u(&[2, 3], 12), Reason::Neither);
+    same("P2", &jobs_u(&[2, 3], 11), Reason::TooDear(3));
+    same("P1 under rule 2", &jobs_u(&[2, 3], 13).under_rule_2(), Reason::Neither);
+    same("P2 under rule 2", &jobs_u(&[2, 3], 12).under_rule_2(), Reason::TooDear(3));
+    same("P5", &jobs_u(&[0], 0), Reason::Neither);
+    same("P6", &jobs_u(&[0, 1], 2_880), Reason::Neither);
+    let mut none = Example { jobs: vec![], atoms: 2, opening: 1, goals: 0, bound: 0 };
+    same("P7", &none, Reason::Neither);
+    none.goals = word(&[1]);
+    same("P7 with a goal", &none, Reason::Never(1));
+    same("P8", &go_twice(), Reason::Neither);
+    let late = jobs_u(&[2, 3, 4], 13).released(&[0, 0, 6, 0]);
+    same("late crate", &late, Reason::TooDear(3));
+    same("late crate in time", &Example { bound: 14, ..late }, Reason::Neither);
+    // The goal sees a finish at the bound, so there is no gap behind the job that adds it.
+    same("one job under rule 2", &jobs_u(&[1], 4).under_rule_2(), Reason::Neither);
+    same("one job too long under rule 2", &jobs_u(&[1], 3).under_rule_2(), Reason::TooDear(1));
+    same("from nothing", &Example { opening: 0, ..jobs_u(&[1, 3], 0) }, Reason::Never(1));
+    let longest = chain(24, false).released(&[2_880; 24]);
+    same("as dear as can be", &longest, Reason::TooDear(24));
+    same("a link missing", &Example { opening: 0, ..longest }, Reason::Never(24));
+}
+
+/// Four goals, each open, in time, just in time, too dear or never reachable, in every way; the first and the last fact
+/// are two of them.
+fn test_lowest_goals(tally: &mut Tally) {
+    let goals = [0, 5, 40, 63];
+    for ways in 0..5u32.pow(4) {
+        let way = |place: usize| ways / 5u32.pow(place as u32) % 5;
+        let adding = (0..4).filter(|&place| way(place) != 0).map(|place| match way(place) {
+            4 => job(&[1], &[goals[place]], &[], 1),
+            way => job(&[], &[goals[place]], &[], 5 + way as u16),
+        });
+        let open = (0..4).filter(|&place| way(place) == 0).fold(0, |open, place| open | 1 << goals[place]);
+        let example =
+            Example { jobs: adding.collect(), atoms: 64, opening: open, goals: word(&goals), bound: 7 };
+        let lowest = |wanted| (0..4).find(|&place| way(place) == wanted).map(|place| goals[place] as usize);
+        let named = lowest(4).map(Reason::Never).or(lowest(3).map(Reason::TooDear));
+        let wanted = named.unwrap_or(Reason::Neither);
+        tally.same("four goals", why_no_plan(&example.given()), Ok(wanted));
+        tally.same("four goals, rule 2", why_no_plan(&example.under_rule_2().given()), Ok(wanted));
+    }
+}
+
+/// What is refused is what planning refuses.
+fn test_reason_refusals(tally: &mut Tally) {
+    let good = jobs_u(&[2, 3], 11);
+    let mut spoilt = vec![Example { bound: 2_881, ..good.clone() }, good.released(&[0, 2_881])];
+    spoilt.push(Example { atoms: 0, bound: 2_881, ..good.clone() });
+    spoilt.push(Example { goals: 1 << 5, bound: 2_881, ..good.clone() });
+    spoilt.push(Example { jobs: vec![good.jobs[0]; 25], bound: 2_881, ..good.clone() });
+    spoilt.push(Example { jobs: vec![job(&[], &[1], &[1], 1)], bound: 2_881, ..good.clone() });
+    spoilt.push(Example { jobs: vec![job(&[], &[], &[], 0)], bound: 2_881, ..good.clone() });
+    for (example, number) in spoilt.iter().zip([9, 20, 4, 7, 5, 8, 6]) {
+        let found = why_no_plan(&example.given()).map(|_| ());
+        tally.same("refused as in planning", found, plan_of(example).map(|_| ()));
+        tally.same("its number", found.map_err(|refusal| refusal.number), Err(number));
+    }
+    let short = Given { count: 5, ..good.given() };
+    tally.same("short records", why_no_plan(&short), refused(3, 0));
+}
+
+/// Where a goal is named no start vector is a plan; where it is never reachable, no order of jobs gives one by 40, when
+/// all that can come has come.
+fn test_reasons_against_start_vectors(tally: &mut Tally) {
+    let mut dice = Dice(0x0afe_a50f_0a91_a271);
+    let mut met = [0; 3];
+    for number in 0..4_000 {
+        let example = match number % 2 {
+            0 => dice.table(4, 5, 3, 9),
+            _ => dice.table_with_goals(4, 5, 3, 9, 1 + number % 3),
+        };
+        for (way, example) in dice.in_every_way(&example, 6) {
+            let problem = check_bounded_table(&example.given()).expect("random tables pass the checks");
+            let (found, what) = (reason(&problem), format!("reasons by start vectors{way}"));
+            tally.same(&what, found, brute::reason(&problem));
+            let longer = Problem { bound: 40, ..problem };
+            let (kind, planned) = match found {
+                Reason::Never(_) => (0, brute::first_plan_by_orders(&longer)),
+                Reason::TooDear(_) => (1, brute::first_plan(&problem)),
+                Reason::Neither => (2, None),
+            };
+            met[kind] += 1;
+            tally.same(&what, planned, None);
+        }
+    }
+    tally.check(&format!("reasons of each kind: {met:?}"), met.iter().all(|&count| count > 1_000));
+}
+
+/// Larger tables at the bounds around what their goals cost, counted by quarter hours.
+fn test_reasons_by_quarter_hours(tally: &mut Tally) {
+    let mut dice = Dice(0x9a27_e240_0725_0c05);
+    for number in 0..120 {
+        let example = match number % 2 {
+            0 => dice.table(24, 12, 40, 0),
+            _ => dice.table_with_goals(24, 20, 60, 0, 3),
+        };
+        for (way, example) in dice.in_every_way(&example, 300) {
+            let problem = check_bounded_table(&example.given()).expect("random tables pass the checks");
+            let times = brute::first_times(&problem);
+            let costs = members(problem.goals).filter_map(|goal| times[goal]);
+            let bounds = costs.flat_map(|cost| [cost.saturating_sub(1), cost]);
+            for bound in bounds.filter(|&bound| bound <= 2_880) {
+                let problem = Problem { bound: bound as u16, ..problem };
+                let what = format!("reasons by quarter hours{way}");
+                tally.same(&what, reason(&problem), brute::reason(&problem));
+            }
+        }
+    }
+}
+
+/// What every call on an offered plan, its estimates, its settling and its reasons say.
 fn all_answers(example: &Example, starts: &[u16], pairs: &[u8]) -> impl PartialEq + std::fmt::Debug {
     let given = example.given();
     let (mut supported, mut bound) = (vec![0; 64 * (starts.len() + 1)], vec![0; 552]);
     let (mut estimated, mut settled) = (vec![0; starts.len()], vec![0; starts.len()]);
-    let set = (1 << starts.len()) - 1;
+    let (set, pair_count) = ((1 << starts.len()) - 1, pairs.len() as u64 / 2);
+    let mut chain = vec![99; starts.len()];
     let answers = (
         offer(example, starts),
         supports(&given, starts, &mut supported),
         binding_pairs(&given, starts, &mut bound),
         estimates(&given, &mut estimated),
-        settle(&given, set, pairs.len() as u64 / 2, pairs, &mut settled),
+        settle(&given, set, pair_count, pairs, &mut settled),
+        why_start(&given, set, pair_count, pairs, starts.len() as u8 / 2, &mut chain),
+        why_no_plan(&given),
     );
-    (answers, supported, bound, estimated, settled)
+    (answers, supported, bound, estimated, settled, chain)
 }
 
 /// The gap in other words: under rule 2 all is answered as under rule 1 with each job and the bound a quarter hour
@@ -1368,6 +1680,16 @@ fn test_calls(tally: &mut Tally) {
         (following[12], following[13]) = (event, job);
         stream.extend(call_bytes(following, &jobs, &starts));
     }
+    for (room, job) in [(5, 1), (4, 255), (3, 1)] {
+        let mut explaining = head(14, 0b1011, 3, 7, room, 0xcd);
+        explaining[13] = job;
+        stream.extend(call_bytes(explaining, &jobs, &[0, 1, 0, 3, 3, 1, 7]));
+    }
+    for (goals, bound) in [(0b11100, 11), (0b11100, 12), (0b100000, 0), (0, 2_881)] {
+        let mut reasoning = head(15, 0, 0, 0, 0, 0);
+        (reasoning[2], reasoning[4], reasoning[5]) = (6, goals, bound);
+        stream.extend(call_bytes(reasoning, &jobs, &[]));
+    }
     let mut output = Vec::new();
     let whole = calls::run(&mut std::io::BufReader::new(&stream[..]), &mut output).is_ok();
     let expected = [
@@ -1395,6 +1717,13 @@ fn test_calls(tally: &mut Tally) {
         "0 0 0 0 9 9 18 6",
         "19 0 1 0 9 1 0 0",
         "19 0 65535 0 9 9223372036854775808 0 0",
+        "0 0 0 3 000301cdcd",
+        "27 0 255 0 cdcdcdcd",
+        "3 0 0 0 cdcdcd",
+        "0 0 0 0 2 3",
+        "0 0 0 0 3 64",
+        "0 0 0 0 1 5",
+        "9 0 0 0 0 64",
     ];
     tally.same(
         "stream of calls",

@@ -13,6 +13,7 @@ use Rattle.bindings.proofs.binding_pairs.Symbol as c-def
 use Rattle.bindings.proofs.binding_pairs.Symbol.{name as #c}
 use Rattle.bindings.proofs.binding_pairs.Met as c-thm
 use Rattle.nuzzlefleece.proofs.Loading.{Load}
+use Rattle.nuzzlefleece.proofs.Numbers.{asks}
 use Rattle.nuzzlefleece.proofs.Derives.{Core, derive-meets}
 use Rattle.nuzzlefleece.proofs.nuzzlefleece_binding_pairs.Key.{name as #f}
 use Rattle.nuzzlefleece.proofs.nuzzlefleece_binding_pairs as f
@@ -24,6 +25,6 @@ unfolding code.routine tablesOf
 nuzzlefleece-binding-pairs-spec 𝓤 H 𝓜 𝓖 𝓡 =
     entered 𝓤 H (tripleOf 𝓤 H (𝓖 .A) f.signature (f.spec 𝓤 H (𝓖 .A) (𝓜 .mem) (𝓡 .run)))
     (tables 𝓤 H 𝓜 𝓡 code.env .C) (tables 𝓤 H 𝓜 𝓡 code.env .Λ) #f code.function (code.unfolded 𝓤 H 𝓜 𝓡)
-    (derive-meets u16 u8 (tyInt w8) Pairs #g #c 𝓤 H (𝓖 .A) (givenOf 𝓤 H 𝓜 𝓖) (𝓜 .mem) (𝓡 .run) (tablesOf 𝓤 H 𝓜 (tables 𝓤 H 𝓜 𝓡 code.env))
+    (derive-meets asks u16 u8 (tyInt w8) Pairs #g #c 𝓤 H (𝓖 .A) (givenOf 𝓤 H 𝓜 𝓖) (𝓜 .mem) (𝓡 .run) (tablesOf 𝓤 H 𝓜 (tables 𝓤 H 𝓜 𝓡 code.env))
     (cited 𝓤 H (Load 𝓤 H (𝓖 .A) (𝓜 .mem) (𝓡 .run)) 𝓜 𝓡 code.env #g g-def.routine code.calls-records·load (g-thm.met 𝓤 H 𝓜 𝓖 𝓡))
-    (cited 𝓤 H (Core u16 u8 (tyInt w8) Pairs 𝓤 H (𝓖 .A)) 𝓜 𝓡 code.env #c c-def.routine code.calls-bindings·binding-pairs (c-thm.met 𝓤 H 𝓜 𝓖 𝓡)))
+    (cited 𝓤 H (Core asks u16 u8 (tyInt w8) Pairs 𝓤 H (𝓖 .A)) 𝓜 𝓡 code.env #c c-def.routine code.calls-bindings·binding-pairs (c-thm.met 𝓤 H 𝓜 𝓖 𝓡)))
