@@ -128,11 +128,11 @@ module _ (l : Loaded) (q : Ask) (bytes : List ℕ) (z : Plan) (job : ℕ) (k : E
   going-begins jobs e = record { room = e; member = k .member; back = λ m c. subst (Chain (problem l q) (wanted l q bytes) z job) (sym (append-nil m)) c }
 
   module _ (jobs : List ℕ) (count j : ℕ) (g : Going l q bytes z job jobs count j) where
-    pub going-below : j < q .jobs
+    going-below : j < q .jobs
     going-below = k .ready .named j (g .member)
 
     -- there is room for one job more
-    pub going-room : count < 24
+    going-room : count < 24
     going-room =
         let r = chain-exists (problem l q) (wanted l q bytes) z (k .order) closed (k .settled) j going-below (g .member) in
         omega (
@@ -143,6 +143,10 @@ module _ (l : Loaded) (q : Ask) (bytes : List ℕ) (z : Plan) (job : ℕ) (k : E
           back-length jobs count,
           k .ready .few,
         )
+
+    -- job and count within the 24 places of the table and of the list
+    pub in-places : (j < 24) × (count < 24) × Going l q bytes z job jobs count j
+    in-places = (omega (arith, going-below, k .ready .few), going-room, g)
 
     more : j ∷ backwards jobs count ≡ backwards (set jobs count j) (count + 1)
     more = back-more jobs count j (omega (arith, g .room, going-room))

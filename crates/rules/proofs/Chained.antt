@@ -99,6 +99,7 @@ module _ (P : Problem) (q : Asked) (z : Plan) where
     some : T (any (λ a. fitsBefore P q z a j) (P .count))
     is : a ≡ before j
 
+  -- the places of a chain, each step as the rule names it
   record Placed (j : ℕ) (l : List ℕ) : Type 0 where
     some : 1 ≤ length l
     first : z (getD l 0 0) ≡ q .from (getD l 0 0)
