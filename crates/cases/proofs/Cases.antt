@@ -93,6 +93,7 @@ all-hold =
     also explains-ok refl tt (omega arith) tt (pushed {l = 0 ∷ 3 ∷ []} (omega arith) tt (pushed {l = 0 ∷ []} (omega arith) tt (released refl)))
     also explains-ok refl tt (omega arith) tt (pushed {l = 0 ∷ 3 ∷ []} (omega arith) tt (pushed {l = 0 ∷ []} (omega arith) tt (released refl)))
     also explains-ok refl tt (omega arith) tt (released refl)
+    also explains-ok refl tt (omega arith) tt (pushed (omega arith) tt (released refl))
     also hinders-ok (0 ∷ 4 ∷ 4 ∷ 4 ∷ []) refl tt refl
     also hinders-ok (0 ∷ 4 ∷ 4 ∷ 4 ∷ []) refl tt refl
     also hinders-ok [] refl tt refl

@@ -170,6 +170,8 @@ cases =
     ∷ explains (gapped []) (0 ∷ 1 ∷ 2 ∷ 3 ∷ []) (0 ∷ 1 ∷ 0 ∷ 2 ∷ 0 ∷ 3 ∷ 3 ∷ 1 ∷ []) 13 1 (0 ∷ 9 ∷ 5 ∷ 5 ∷ []) (0 ∷ 3 ∷ 1 ∷ [])
     -- Ten: warm released at 4 starts there, and unpack, behind which it is asked, is not named
     ∷ explains (warmFrom 4) (0 ∷ 2 ∷ []) (0 ∷ 2 ∷ []) 12 2 (0 ∷ out ∷ 4 ∷ out ∷ []) (2 ∷ [])
+    -- Ten: go and back both fit before drop: the lowest is named, though it is asked last
+    ∷ explains trolley (0 ∷ 1 ∷ 2 ∷ []) (1 ∷ 2 ∷ 0 ∷ 2 ∷ []) 12 2 (0 ∷ 0 ∷ 1 ∷ out ∷ []) (0 ∷ 2 ∷ [])
     -- Ten: P2: fact 3 is too dear
     ∷ hinders (U (2 ∷ 3 ∷ [])) 11 (TooDear 3)
     -- Ten: P6: neither
