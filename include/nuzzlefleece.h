@@ -22,9 +22,9 @@
 extern "C" {
 #endif
 
-/* The version that this header describes, 10,000 times the first number, 100 times the second, and the third: 1.7.0.
+/* The version that this header describes, 10,000 times the first number, 100 times the second, and the third: 1.8.0.
  * nuzzlefleece_version() returns that of the library linked; where the two differ, header and library are not of one build. */
-#define NUZZLEFLEECE_VERSION 10700
+#define NUZZLEFLEECE_VERSION 10800
 
 /* Sizes and limits. A fact is a number below the atom count; a word of facts has fact 0 in its lowest bit. */
 enum {
@@ -36,6 +36,7 @@ enum {
     NUZZLEFLEECE_MOST_RELEASE = 2880,   /* quarter hours; the least is 0 */
     NUZZLEFLEECE_MOST_BOUND = 2880,     /* quarter hours */
     NUZZLEFLEECE_MOST_PAIRS = 600,      /* asked of settling */
+    NUZZLEFLEECE_MOST_OVERRUN = 96,     /* quarter hours by which each job may run over; the least is 0 */
     NUZZLEFLEECE_MOST_MARKS = 16,
     NUZZLEFLEECE_MOST_LEVEL = 1000,     /* tenths; the least is -1000 */
     NUZZLEFLEECE_MOST_FILE = 65536,     /* bytes of a job file */
@@ -100,7 +101,8 @@ enum {
                                           * is not allowed after events that give them */
     NUZZLEFLEECE_RELEASE_WRONG = 20,     /* over 2,880; checked after 6 and before 7; place: lowest job */
     NUZZLEFLEECE_BEFORE_RELEASE = 21,    /* offered plan: a job starts before its release; checked after 11 and before 12; place: lowest job */
-    NUZZLEFLEECE_NOT_IN_SET = 27         /* why a job starts when it does: it is not in the set; place: the job */
+    NUZZLEFLEECE_NOT_IN_SET = 27,        /* why a job starts when it does: it is not in the set; place: the job */
+    NUZZLEFLEECE_OVERRUN_WRONG = 34      /* how late a plan can get: each job may run over by more than 96; checked after 14 */
 };
 
 /* What a refusal says, in words; the place and the second number are said by the comments above. */
@@ -130,6 +132,8 @@ static inline const char *nuzzlefleece_words(unsigned number) {
         "offered plan: a job starts before its release",
         NULL, NULL, NULL, NULL, NULL, /* 22 to 26: no such refusals */
         "why a job starts: it is not in the set",
+        NULL, NULL, NULL, NULL, NULL, NULL, /* 28 to 33: no such refusals */
+        "how late: more than 96 quarter hours over",
     };
     return number < sizeof words / sizeof words[0] && words[number] != NULL ? words[number] : "no such refusal";
 }
@@ -194,6 +198,12 @@ typedef struct nuzzlefleece_question {
     uint8_t job;
 } nuzzlefleece_question;
 
+/* What nuzzlefleece_how_late is asked. */
+typedef struct nuzzlefleece_overruns {
+    nuzzlefleece_ask ask;
+    uint16_t most; /* by how many quarter hours each job may run over, 0 to 96 */
+} nuzzlefleece_overruns;
+
 /* Why there is no plan, and which goal is the cause. */
 typedef struct nuzzlefleece_reason {
     nuzzlefleece_answer answer;
@@ -232,7 +242,8 @@ typedef char nuzzlefleece_layouts[sizeof(nuzzlefleece_action) == 32 && offsetof(
     && sizeof(nuzzlefleece_ask) == 56 && sizeof(nuzzlefleece_answer) == 8 && offsetof(nuzzlefleece_answer, second) == 1
     && offsetof(nuzzlefleece_answer, place) == 2 && sizeof(nuzzlefleece_clash) == 2 && sizeof(nuzzlefleece_save) == 64
     && sizeof(nuzzlefleece_watch) == 80 && offsetof(nuzzlefleece_watch, job) == 73 && sizeof(nuzzlefleece_screen) == 40
-    && sizeof(nuzzlefleece_question) == 64 && offsetof(nuzzlefleece_question, job) == 56 && sizeof(nuzzlefleece_reason) == 12
+    && sizeof(nuzzlefleece_question) == 64 && offsetof(nuzzlefleece_question, job) == 56 && sizeof(nuzzlefleece_overruns) == 64
+    && offsetof(nuzzlefleece_overruns, most) == 56 && sizeof(nuzzlefleece_reason) == 12
     && offsetof(nuzzlefleece_reason, kind) == 8 && offsetof(nuzzlefleece_reason, fact) == 9 && sizeof(nuzzlefleece_read_answer) == 64 && sizeof(nuzzlefleece_opening) == 16 && offsetof(nuzzlefleece_opening, second) == 1
     && offsetof(nuzzlefleece_opening, place) == 2 ? 1 : -1];
 
@@ -302,6 +313,19 @@ nuzzlefleece_answer nuzzlefleece_binding_pairs(const nuzzlefleece_action *record
  * not allowed after events that give them.
  */
 nuzzlefleece_screen nuzzlefleece_follow(const nuzzlefleece_action *records, size_t lent, nuzzlefleece_watch watch,
+    const uint16_t *starts, size_t starts_lent);
+
+/*
+ * How late the offered plan can get where each of its jobs may run over by up to overruns.most quarter hours. Each job of the plan starts as
+ * soon as its release has come and the first job of every binding pair with it as second has finished, under rule 2 a quarter hour before.
+ * Whatever the overruns are, each from 0 to overruns.most, job by job, all is finished by the value. It is the settled finish plus
+ * overruns.most times the greatest number of jobs in one chain of binding pairs. The settled finish is the last finish of all jobs of the
+ * plan, also those in no pair, at the starts that nuzzlefleece_settle gives them by the binding pairs; a lone job is a chain of one. With
+ * overruns.most 0 all is finished just at the value; for the empty plan it is 0, whatever overruns.most is. The plan's own starts play no part
+ * in that, beyond the pairs, and the value may be above the bound. No lent memory is filled. Refusals 3 to 9 and 20, then 11 to 14 and 21 as in
+ * nuzzlefleece_check_plan, then 34.
+ */
+nuzzlefleece_answer nuzzlefleece_how_late(const nuzzlefleece_action *records, size_t lent, nuzzlefleece_overruns overruns,
     const uint16_t *starts, size_t starts_lent);
 
 /*

@@ -194,6 +194,12 @@ static void answer_no_plan(void) {
     printf(" %u %u", (unsigned)reason.kind, (unsigned)reason.fact);
 }
 
+/* Call 16: the answer alone. */
+static void answer_lateness(void) {
+    nuzzlefleece_overruns overruns = {.ask = ask(), .most = (uint16_t)head[12]};
+    print_answer(nuzzlefleece_how_late(records, head[8], overruns, halves(table, head[9] / 2), head[9] / 2));
+}
+
 static void answer_readings(void) {
     static int16_t levels[MOST_OUT];
     nuzzlefleece_reading reading;
@@ -250,6 +256,9 @@ static void answer_call(void) {
         break;
     case 15:
         answer_no_plan();
+        break;
+    case 16:
+        answer_lateness();
         break;
     default:
         printf("unknown");

@@ -1,7 +1,7 @@
 /*
  * Calls every function of the C library on the scope's example P3, with warm released later, under rule 2, on jobs that clash, on events as
- * they come, for reasons, on full files, with nothing lent and with bad input, and holds each answer to the scope's numbers. Last line: 'N
- * passed, M failed'; any failure gives status 1.
+ * they come, for reasons, where jobs run over, on full files, with nothing lent and with bad input, and holds each answer to the scope's
+ * numbers. Last line: 'N passed, M failed'; any failure gives status 1.
  */
 #include <stdio.h>
 #include <string.h>
@@ -697,6 +697,167 @@ static void refuses_reasons(void) {
     reasons("in order", nuzzlefleece_why_no_plan(jobs, 25, ask), 0, 0, NUZZLEFLEECE_WHY_NEVER, 1);
 }
 
+/* How late a plan of four jobs can get, with ones in every byte that a caller does not set. */
+static nuzzlefleece_answer how_late(const nuzzlefleece_action *jobs, nuzzlefleece_ask ask, uint16_t most, const uint16_t *starts) {
+    nuzzlefleece_overruns overruns;
+    memset(&overruns, 255, sizeof overruns);
+    overruns.ask = ask;
+    overruns.most = most;
+    return nuzzlefleece_how_late(jobs, 4, overruns, starts, 4);
+}
+
+/* The numbers of change request Twelve, also for a plan of P3 that takes its time, and whatever else is asked beside. */
+static void tells_how_late(void) {
+    static const uint16_t slack[] = {5, 30, 12, 20};
+    nuzzlefleece_ask ask = p3_ask;
+    says("P3, nothing over", how_late(p3, ask, 0, p3_starts), 0, 0, 12);
+    says("P3, a quarter hour over", how_late(p3, ask, 1, p3_starts), 0, 0, 15);
+    says("P3, a day over", how_late(p3, ask, NUZZLEFLEECE_MOST_OVERRUN, p3_starts), 0, 0, 300);
+    ask.set = ALL_FACTS;
+    ask.pairs = (size_t)-1;
+    ask.bound = 2880;
+    says("slack, nothing over", how_late(p3, ask, 0, slack), 0, 0, 12);
+    says("slack, a quarter hour over", how_late(p3, ask, 1, slack), 0, 0, 15);
+    says("slack, a day over", how_late(p3, ask, 96, slack), 0, 0, 300);
+}
+
+/* By rule 2 and with warm released at 6 P3 is finished later; unpack, wash and drench are still the longest chain. */
+static void tells_by_rule_and_release(void) {
+    nuzzlefleece_ask ask = p3_ask;
+    ask.bound = 14;
+    for (uint16_t most = 0; most <= NUZZLEFLEECE_MOST_OVERRUN; most++) {
+        says("P3 under rule 2", how_late(p3, ruled_ask(13), most, ruled_starts), 0, 0, 13 + 3u * most);
+        says("the late crate", how_late(late, ask, most, late_starts), 0, 0, 14 + 3u * most);
+    }
+}
+
+/* The overrun stands in the two bytes behind the numbers, the low one first. */
+static void reads_the_overrun(void) {
+    uint8_t bytes[64] = {0};
+    nuzzlefleece_overruns overruns;
+    memcpy(bytes, &p3_ask, sizeof p3_ask);
+    for (unsigned high = 0; high < 2; high++) {
+        bytes[56] = 1;
+        bytes[57] = (uint8_t)high;
+        memcpy(&overruns, bytes, sizeof overruns);
+        says("the overrun by its bytes", nuzzlefleece_how_late(p3, 4, overruns, p3_starts, 4), high * NUZZLEFLEECE_OVERRUN_WRONG, 0, 15 - 15 * high);
+    }
+}
+
+/* Three jobs one behind the other, the last job first, and a long one beside them that is released; then fewer of them. */
+static void counts_the_longest_chain(void) {
+    static const nuzzlefleece_action jobs[] = {
+        {.conditions = FACT(1), .additions = FACT(0), .duration = 2},
+        {.conditions = FACT(2), .additions = FACT(1), .duration = 3},
+        {.additions = FACT(2), .duration = 4},
+        {.additions = FACT(3), .duration = 50, .release = 7},
+    };
+    static const uint16_t out = NUZZLEFLEECE_OUT;
+    const uint16_t all[] = {20, 10, 1, 9}, three[] = {20, 10, 1, out}, two[] = {out, 10, 1, 9}, lone[] = {out, out, out, 9};
+    const uint16_t none[] = {out, out, out, out};
+    nuzzlefleece_ask ask = {.jobs = 4, .atoms = 4, .bound = 60};
+    for (unsigned gap = 0; gap < 2; gap++) {
+        for (uint16_t most = 0; most <= NUZZLEFLEECE_MOST_OVERRUN; most += 32) {
+            says("a chain of three beside a long job", how_late(jobs, ask, most, all), 0, 0, 7 + 50 + 3u * most);
+            says("the chain alone", how_late(jobs, ask, most, three), 0, 0, 4 + 3 + 2 + 2 * gap + 3u * most);
+            says("a chain of two beside it", how_late(jobs, ask, most, two), 0, 0, 7 + 50 + 2u * most);
+            says("a lone job", how_late(jobs, ask, most, lone), 0, 0, 7 + 50 + most);
+            says("no jobs", how_late(jobs, ask, most, none), 0, 0, 0);
+        }
+        ask.atoms += NUZZLEFLEECE_RULE_2;
+    }
+}
+
+/* 24 jobs one behind the other, the last job first, up to the last bound, by either rule. */
+static void tells_of_full_tables(void) {
+    nuzzlefleece_action jobs[24];
+    uint16_t starts[24];
+    for (unsigned gap = 0; gap < 2; gap++) {
+        nuzzlefleece_overruns overruns = {.ask = {.jobs = 24, .atoms = 25, .opening = FACT(24), .goals = 1, .bound = 2880}};
+        overruns.ask.atoms += (uint8_t)(gap * NUZZLEFLEECE_RULE_2);
+        for (size_t i = 0; i < 24; i++) {
+            jobs[i] = of_facts(FACT(i + 1), FACT(i), 0);
+            jobs[i].duration = (uint16_t)(i == 0 ? 120 : 120 - gap);
+            starts[i] = (uint16_t)(120 * (23 - i));
+        }
+        for (unsigned most = 0; most <= NUZZLEFLEECE_MOST_OVERRUN; most += 48) {
+            overruns.most = (uint16_t)most;
+            says("24 jobs", nuzzlefleece_how_late(jobs, 24, overruns, starts, 24), 0, 0, 2880 + 24 * most);
+        }
+    }
+}
+
+/* Overruns over 96, also those that would be taken without their high bits: place and value are 0. */
+static void refuses_overruns(void) {
+    static const uint16_t over[] = {97, 98, 127, 128, 255, 256, 257, 352, 32768, 65535};
+    static const uint16_t none[] = {NUZZLEFLEECE_OUT, NUZZLEFLEECE_OUT, NUZZLEFLEECE_OUT, NUZZLEFLEECE_OUT};
+    nuzzlefleece_ask ask = p3_ask;
+    ask.goals = FACT(0);
+    for (size_t i = 0; i < sizeof over / sizeof over[0]; i++) {
+        says("over 96", how_late(p3, p3_ask, over[i], p3_starts), NUZZLEFLEECE_OVERRUN_WRONG, 0, 0);
+        says("over 96 with no jobs", how_late(p3, ask, over[i], none), NUZZLEFLEECE_OVERRUN_WRONG, 0, 0);
+    }
+}
+
+/* Every refusal of a table, each before those behind it, also that of the plan, which has no goal, and 34. */
+static void refuses_late_tables(void) {
+    nuzzlefleece_action jobs[25];
+    static const uint16_t starts[26] = {0};
+    nuzzlefleece_overruns overruns = {{.jobs = 26, .atoms = 65, .goals = FACT(5), .bound = 2881}, 97};
+    for (size_t i = 0; i < 25; i++) {
+        jobs[i] = of_facts(1, 2, 2);
+    }
+    jobs[9].duration = 0;
+    jobs[4].release = 2881;
+    jobs[7].conditions = FACT(6);
+    says("too few records", nuzzlefleece_how_late(jobs, 25, overruns, starts, 26), NUZZLEFLEECE_LENT_TOO_SHORT, 0, 0);
+    overruns.ask.jobs = 25;
+    says("too few starts", nuzzlefleece_how_late(jobs, 25, overruns, starts, 24), NUZZLEFLEECE_LENT_TOO_SHORT, 0, 0);
+    says("65 atoms", nuzzlefleece_how_late(jobs, 25, overruns, starts, 26), NUZZLEFLEECE_ATOMS_WRONG, 0, 0);
+    overruns.ask.atoms = 5 + NUZZLEFLEECE_RULE_2;
+    says("25 jobs", nuzzlefleece_how_late(jobs, 25, overruns, starts, 26), NUZZLEFLEECE_TOO_MANY_JOBS, 0, 0);
+    overruns.ask.jobs = 24;
+    says("no duration", nuzzlefleece_how_late(jobs, 25, overruns, starts, 26), NUZZLEFLEECE_DURATION_WRONG, 9, 0);
+    jobs[9].duration = 1;
+    says("a release over 2,880", nuzzlefleece_how_late(jobs, 25, overruns, starts, 26), NUZZLEFLEECE_RELEASE_WRONG, 4, 0);
+    jobs[4].release = 2880;
+    says("a fact of a job", nuzzlefleece_how_late(jobs, 25, overruns, starts, 26), NUZZLEFLEECE_FACT_WRONG, 7, 0);
+    jobs[7].conditions = 1;
+    says("a goal", nuzzlefleece_how_late(jobs, 25, overruns, starts, 26), NUZZLEFLEECE_FACT_WRONG, 24, 0);
+    overruns.ask.goals = 2;
+    says("adds and deletes", nuzzlefleece_how_late(jobs, 25, overruns, starts, 26), NUZZLEFLEECE_ADDS_AND_DELETES, 0, 0);
+    overruns.ask.jobs = 0;
+    says("bound 2,881", nuzzlefleece_how_late(jobs, 25, overruns, starts, 26), NUZZLEFLEECE_BOUND_WRONG, 0, 0);
+    overruns.ask.bound = 2880;
+    says("no jobs, and a goal", nuzzlefleece_how_late(jobs, 25, overruns, starts, 26), NUZZLEFLEECE_GOAL_MISSING, 1, 0);
+}
+
+/* Every refusal of a plan of P3's jobs, each before those behind it, and 34 last of all. What is lent stays as it was, also behind the plan. */
+static void refuses_late_plans(void) {
+    nuzzlefleece_action jobs[5] = {{.duration = 0}}, once[5];
+    uint16_t starts[5] = {0, 6, 3, 4, 7}, before[5];
+    nuzzlefleece_ask ask = p3_ask;
+    nuzzlefleece_overruns overruns = {p3_ask, 96};
+    memcpy(jobs, p3, sizeof p3);
+    jobs[2].release = 4;
+    ask.goals |= FACT(0);
+    ask.bound = 10;
+    says("a late end", how_late(jobs, ask, 97, starts), NUZZLEFLEECE_ENDS_TOO_LATE, 2, 0);
+    ask.bound = 12;
+    says("before its release", how_late(jobs, ask, 97, starts), NUZZLEFLEECE_BEFORE_RELEASE, 2, 0);
+    jobs[2].release = 0;
+    overlaps("an overlap", how_late(jobs, ask, 97, starts), 1, 2);
+    starts[1] = 7;
+    says("a condition missing", how_late(jobs, ask, 97, starts), NUZZLEFLEECE_CONDITION_MISSING, 2, 0);
+    starts[2] = 4;
+    says("a goal missing", how_late(jobs, ask, 97, starts), NUZZLEFLEECE_GOAL_MISSING, 0, 0);
+    memcpy(once, jobs, sizeof once);
+    memcpy(before, starts, sizeof before);
+    says("97 over", how_late(jobs, p3_ask, 97, starts), NUZZLEFLEECE_OVERRUN_WRONG, 0, 0);
+    says("more lent than needed", nuzzlefleece_how_late(jobs, 5, overruns, starts, 5), 0, 0, 300);
+    expect("nothing lent is changed", memcmp(jobs, once, sizeof once) == 0 && memcmp(starts, before, sizeof before) == 0);
+}
+
 /* A save is read back, and its page is bench-plan's text. */
 static void answers_files(void) {
     static uint8_t file[200], text[NUZZLEFLEECE_PAGE_BYTES];
@@ -833,6 +994,7 @@ static void takes_null(void) {
     nuzzlefleece_save save = {.ask = ask};
     nuzzlefleece_watch watch = {.ask = ask, .job = 9};
     nuzzlefleece_question question = {.ask = ask, .job = 9};
+    nuzzlefleece_overruns overruns = {.ask = ask, .most = 96};
     says("null: check plan", nuzzlefleece_check_plan(NULL, 0, ask, NULL, 0), 0, 0, 0);
     says("null: plan within", nuzzlefleece_plan_within(NULL, 0, ask, NULL, 0), 0, 0, 0);
     says("null: least bound", nuzzlefleece_least_bound(NULL, 0, ask, NULL, 0), 0, 0, 0);
@@ -842,6 +1004,11 @@ static void takes_null(void) {
     says("null: estimates", nuzzlefleece_earliest(NULL, 0, ask, NULL, 0), 0, 0, 0);
     says("null: settle", nuzzlefleece_settle(NULL, 0, ask, NULL, 0, NULL, 0), 0, 0, 0);
     says("null: why start", nuzzlefleece_why_start(NULL, 0, question, NULL, 0, NULL, 0), NUZZLEFLEECE_NOT_IN_SET, 9, 0);
+    says("null: how late", nuzzlefleece_how_late(NULL, 0, overruns, NULL, 0), 0, 0, 0);
+    overruns.most++;
+    says("null: 97 over", nuzzlefleece_how_late(NULL, 0, overruns, NULL, 0), NUZZLEFLEECE_OVERRUN_WRONG, 0, 0);
+    overruns.ask.goals = 2;
+    says("null: a goal before 97", nuzzlefleece_how_late(NULL, 0, overruns, NULL, 0), NUZZLEFLEECE_GOAL_MISSING, 1, 0);
     reasons("null: why no plan", nuzzlefleece_why_no_plan(NULL, 0, ask), 0, 0, NUZZLEFLEECE_WHY_NEITHER, NUZZLEFLEECE_NO_FACT);
     says("null: read file", nuzzlefleece_read_file(NULL, 0, NULL, 0).answer, NUZZLEFLEECE_FILE_DAMAGED, 0, 0);
     says("null: write file", nuzzlefleece_write_file(NULL, 0, save, NULL, 0), NUZZLEFLEECE_LENT_TOO_SHORT, 0, 0);
@@ -892,12 +1059,13 @@ static void refuses_tables(void) {
 static void describes_itself(void) {
     expect("version", nuzzlefleece_version() == NUZZLEFLEECE_VERSION);
     expect("a record has 32 bytes", sizeof(nuzzlefleece_action) == NUZZLEFLEECE_RECORD_BYTES);
-    for (unsigned number = 0; number <= NUZZLEFLEECE_NOT_IN_SET + 1; number++) {
-        int known = number <= NUZZLEFLEECE_BEFORE_RELEASE || number == NUZZLEFLEECE_NOT_IN_SET;
+    for (unsigned number = 0; number <= NUZZLEFLEECE_OVERRUN_WRONG + 1; number++) {
+        int known = number <= NUZZLEFLEECE_BEFORE_RELEASE || number == NUZZLEFLEECE_NOT_IN_SET || number == NUZZLEFLEECE_OVERRUN_WRONG;
         expect("words of a refusal, and of no other", (strcmp(nuzzlefleece_words(number), "no such refusal") != 0) == known);
     }
     expect("words of 20", strcmp(nuzzlefleece_words(NUZZLEFLEECE_RELEASE_WRONG), "a release over 2,880") == 0);
     expect("words of 27", strcmp(nuzzlefleece_words(NUZZLEFLEECE_NOT_IN_SET), "why a job starts: it is not in the set") == 0);
+    expect("words of 34", strcmp(nuzzlefleece_words(NUZZLEFLEECE_OVERRUN_WRONG), "how late: more than 96 quarter hours over") == 0);
 }
 
 int main(void) {
@@ -928,6 +1096,14 @@ int main(void) {
     answers_no_plan();
     names_edge_facts();
     refuses_reasons();
+    tells_how_late();
+    tells_by_rule_and_release();
+    reads_the_overrun();
+    counts_the_longest_chain();
+    tells_of_full_tables();
+    refuses_overruns();
+    refuses_late_tables();
+    refuses_late_plans();
     answers_files();
     tidies_full_files();
     tidies_notes();

@@ -5,7 +5,7 @@ from typing import NamedTuple
 KINDS = {
     1: 'check plan', 2: 'plan within bound', 3: 'least bound', 4: 'supports', 5: 'binding pairs',
     6: 'estimates', 7: 'settle', 8: 'read file', 9: 'write file', 10: 'opening facts', 11: 'why jobs clash',
-    12: 'tidy file', 13: 'follow', 14: 'why job starts', 15: 'why no plan',
+    12: 'tidy file', 13: 'follow', 14: 'why job starts', 15: 'why no plan', 16: 'how late',
 }
 EVENTS = {0: 'start', 1: 'finish'}
 WORDS = 16
@@ -46,7 +46,8 @@ class Call:
         lengths = head[9:12] if kind == 10 else []
         fits = (len(self.records) <= MOST_RECORDS and len(self.table) <= most and head[2] <= 255
                 and head[5] <= 65535 and max(lengths, default=0) <= MOST_MARKS
-                and (kind == 10 or head[10] <= MOST_OUT) and (kind not in (13, 14) or max(head[12:14]) <= 255))
+                and (kind == 10 or head[10] <= MOST_OUT) and (kind not in (13, 14) or max(head[12:14]) <= 255)
+                and (kind != 16 or head[12] <= 65535))
         if not fits or head[8] != len(self.records) or table_bytes(head) != len(self.table):
             raise ValueError(f'a call that does not fit: {head}')
 
@@ -86,6 +87,11 @@ def with_atom_byte(call, byte):
         end = file_end(call)
         return Call(call.head, call.records, with_trailer(call.table[:end], ATOMS_AT, bytes([byte])) + call.table[end:])
     return Call([*call.head[:2], byte, *call.head[3:]], call.records, call.table)
+
+
+def with_overrun(call, most):
+    """The same call with another number of quarter hours by which each job may run over."""
+    return Call([*call.head[:12], most, *call.head[13:]], call.records, call.table)
 
 
 def table_bytes(head):
@@ -156,6 +162,10 @@ def event_text(call):
             f'event {event} ({EVENTS.get(event, "none")}) of job {job}']
 
 
+def overrun_text(call):
+    return [f'each job up to {call.head[12]} over']
+
+
 def pairs_text(call):
     """The set and the pairs."""
     head, table = call.head, call.table
@@ -166,8 +176,9 @@ def pairs_text(call):
 def given_text(call):
     """What stands behind the table, by kind."""
     kind, head = call.head[0], call.head
-    if kind in (1, 4, 5, 13):
-        return [starts_text(call.table)] + (event_text(call) if kind == 13 else [])
+    if kind in (1, 4, 5, 13, 16):
+        more = {13: event_text, 16: overrun_text}
+        return [starts_text(call.table)] + (more[kind](call) if kind in more else [])
     if kind in (7, 14):
         return pairs_text(call) + ([f'job {head[13]}'] if kind == 14 else [])
     if kind == 9:

@@ -4,7 +4,7 @@ from itertools import combinations, product
 
 from call import Call, Job, clash_call
 from draft import MOST, OFFERED, Draft
-from tables import OUT, Problem, clashing, jobs_u, last_end, released, some_facts
+from tables import OUT, Problem, clashing, jobs_u, released, some_facts, to_its_end
 
 # The words of a record by their places.
 CONDITIONS, ADDITIONS, DELETIONS = range(3)
@@ -77,7 +77,7 @@ def no_pairs(dice):
 
 def offered(kind, problem, starts):
     """The plan within a bound at which it ends."""
-    return Draft(kind, replace(problem, bound=last_end(problem, starts)), starts).call()
+    return Draft(kind, to_its_end(problem, starts), starts).call()
 
 
 def one_overlap(dice):

@@ -2,6 +2,7 @@
 import struct
 from collections import namedtuple
 from dataclasses import replace
+from itertools import combinations
 
 from call import TRAILER, Call, Job, marked
 from tables import (LAST_BOUND, LAST_RELEASE, LONGEST, MOST_JOBS, NAMED, OUT, chain, drawn_table, house, jobs_in,
@@ -11,14 +12,16 @@ from tables import (LAST_BOUND, LAST_RELEASE, LONGEST, MOST_JOBS, NAMED, OUT, ch
 PAIR_TABLE = 552
 RECORD = 32
 OFFERED, TABLED = (1, 4, 5), (1, 2, 3, 4, 5, 6, 7, 8, 9)
-SETTLE, FOLLOW, WHY_START, WHY_NO_PLAN = 7, 13, 14, 15
+SETTLE, FOLLOW, WHY_START, WHY_NO_PLAN, HOW_LATE = 7, 13, 14, 15, 16
 SETTLING = SETTLE, WHY_START
+# The kinds that take a plan's starts, and those of the last ones that fill no memory.
+STARTED, UNFILLED = (*OFFERED, FOLLOW, HOW_LATE), (FOLLOW, WHY_NO_PLAN, HOW_LATE)
 MOST = 2 ** 64 - 1
 
 
 def room_needed(kind, count):
     """Elements of the lent output table."""
-    return {4: 64 * (count + 1), 5: PAIR_TABLE, 1: 0, 8: 0, 9: 0, FOLLOW: 0, WHY_NO_PLAN: 0}.get(kind, count)
+    return {4: 64 * (count + 1), 5: PAIR_TABLE, **dict.fromkeys((1, 8, 9, *UNFILLED), 0)}.get(kind, count)
 
 
 def save_bytes(jobs, count, atoms, opening, goals, bound, distance, notes=b''):
@@ -40,8 +43,8 @@ class Draft:
         self.before, self.notes, self.behind = b'', b'', b''
         self.used, self.buffer = 0, bytes(RECORD * self.count + TRAILER)
         self.lent = [Job(0x1111, 0x2222, 0x4444, 77)] * self.count
-        self.room, self.fill = room_needed(kind, self.count), 0 if kind in (FOLLOW, WHY_NO_PLAN) else 0xab
-        self.started = self.finished = self.event = self.job = 0
+        self.room, self.fill = room_needed(kind, self.count), 0 if kind in UNFILLED else 0xab
+        self.started = self.finished = self.event = self.job = self.most = 0
 
     def file(self):
         distance = RECORD * self.count + len(self.notes)
@@ -49,7 +52,7 @@ class Draft:
         return self.before + save_bytes(self.jobs, *numbers, self.notes)
 
     def given(self):
-        if self.kind in (*OFFERED, FOLLOW):
+        if self.kind in STARTED:
             return struct.pack(f'<{len(self.starts)}H', *self.starts)
         if self.kind in SETTLING:
             return b''.join(bytes(pair) for pair in self.pairs) + self.behind
@@ -62,7 +65,7 @@ class Draft:
         settling = dict.fromkeys(SETTLING, (self.set, self.pair_count))
         six, seven = {**settling, 9: (self.used, 0), FOLLOW: (self.started, self.finished)}.get(self.kind, (0, 0))
         head = [self.kind, self.count, marked(self.atoms, self.gap), self.opening, self.goals, self.bound, six, seven,
-                len(self.jobs), len(given), self.room, self.fill, self.event, self.job]
+                len(self.jobs), len(given), self.room, self.fill, self.most if self.kind == HOW_LATE else self.event, self.job]
         return Call(head, self.jobs, given)
 
     def set_field(self, place, field, value):
@@ -256,6 +259,16 @@ def each_fault(dice, crates, places, kinds=TABLED):
                 draft = base_draft(dice, kind, 24, crates)
                 fault(draft, dice, place)
                 yield cut_to_limits(draft).call()
+
+
+def two_faults(dice, kinds):
+    """Every two faults together, at any jobs, in each kind of call."""
+    for number, faults in enumerate(combinations(dict.fromkeys([*LATE.faults, *HYGIENE.faults]), 2)):
+        for kind in kinds:
+            draft = base_draft(dice, kind, MOST_JOBS, (LATE, HYGIENE)[number % 2])
+            for fault in dice.sample(faults, 2):
+                fault(draft, dice, dice.randrange(len(draft.jobs)))
+            yield cut_to_limits(draft).call()
 
 
 def at_bounds(problem, bounds):

@@ -4,12 +4,12 @@ from dataclasses import replace
 from itertools import product
 
 from call import Job
-from clashes import WAYS, offered, two_jobs
+from clashes import WAYS, two_jobs
 from draft import (FOLLOW, HYGIENE, LATE, MOST, ON_TIME, Draft, cut_to_limits, each_fault, landed, planned_table,
                    some_offer)
 from gaps import KEPT
 from tables import (MOST_JOBS, OUT, Problem, chain, clashing, go_again, house, interfere, job, jobs_in, jobs_u, random_table,
-                    released, ruled, some_plan, tower, trolley, with_goals)
+                    released, ruled, some_plan, to_its_end, tower, trolley, with_goals)
 
 START, FINISH = 0, 1
 CRATES = ON_TIME, LATE, HYGIENE
@@ -263,18 +263,23 @@ def near(problem, starts):
         yield from ((problem, [*starts[:j], other, *starts[j + 1:]]) for other in others)
 
 
+def too_near():
+    """Plans in which two jobs clash over the first or the last fact, in each way, by either rule; and plans of which two jobs touch."""
+    for fact, way, gap in product((0, 63), WAYS, (0, 1)):
+        yield to_its_end(Problem(two_jobs([(fact, way)]), 64, 0, 0, 0, gap), [0, 0]), [0, 0]
+    # By rule 1 all is in order: drench touches wash, then warm touches unpack.
+    for starts in ([0, 8, 5, 5], [0, 9, 4, 5]):
+        yield ruled(jobs_u([2, 3, 4], 13)), starts
+    # The first two touch, the last two overlap.
+    yield from ((to_its_end(rivals, [0, 1, 1]), [0, 1, 1]) for rivals in (clashing(3), ruled(clashing(3))))
+
+
 def wrong_plans(dice):
     """Whatever the words and the event: in order, words that no events give, an event that is not allowed."""
     for plan in PLANS:
         for other in near(*plan):
             yield watched(*other, *dice.choice((((0, 0), (START, 0)), ((2, 0), (START, 0)), ((1, 1), (START, 1)))))
-    for fact, way, gap in product((0, 63), WAYS, (0, 1)):
-        yield offered(FOLLOW, Problem(two_jobs([(fact, way)]), 64, 0, 0, 0, gap), [0, 0])
-    # By rule 1 all is in order: drench touches wash, then warm touches unpack.
-    for starts in ([0, 8, 5, 5], [0, 9, 4, 5]):
-        yield watched(ruled(jobs_u([2, 3, 4], 13)), starts, (0, 0), (START, 0))
-    # The first two touch, the last two overlap.
-    yield from (offered(FOLLOW, rivals, [0, 1, 1]) for rivals in (clashing(3), ruled(clashing(3))))
+    yield from (watched(*plan, (0, 0), (START, 0)) for plan in too_near())
 
 
 def every_fault(dice):

@@ -13,6 +13,7 @@ import clashes
 import files
 import follows
 import gaps
+import lateness
 import readings
 import reasons
 import releases
@@ -33,6 +34,7 @@ ROUNDS_SEED = 20090725
 TIDY_SEED, TIDY_DRAWN = 20100725, 600
 FOLLOW_SEED, FOLLOW_DRAWN = 20110725, 100
 REASON_SEED, REASON_DRAWN = 20120725, 150
+LATENESS_SEED, LATENESS_DRAWN = 20130725, 150
 
 
 # Planning.
@@ -194,19 +196,20 @@ def mixed(seed, walks, count=0, crates=ON_TIME):
 def corpus():
     """The fixed calls: those that stood before there were releases, unchanged, behind them those with releases, those
     under rule 2, those on clashes, those beside halves of a tenth, estimates that take many rounds, files to tidy, plans to
-    follow, and last those that ask for reasons."""
+    follow, those that ask for reasons, and last those that ask how late it can get."""
     return (mixed(SEED, WALKS, DRAWN, ON_TIME) + mixed(LATE_SEED, releases.WALKS, LATE_DRAWN, LATE)
             + mixed(GAP_SEED, gaps.WALKS, GAP_DRAWN, HYGIENE) + mixed(CLASH_SEED, clashes.WALKS)
             + mixed(TENTHS_SEED, (readings.beside_halves,)) + mixed(ROUNDS_SEED, rounds.WALKS)
             + mixed(TIDY_SEED, (*tidies.WALKS, several(tidies.drawn, TIDY_DRAWN)))
             + mixed(FOLLOW_SEED, (*follows.WALKS, several(follows.drawn, FOLLOW_DRAWN)))
-            + mixed(REASON_SEED, (*reasons.WALKS, several(reasons.drawn, REASON_DRAWN))))
+            + mixed(REASON_SEED, (*reasons.WALKS, several(reasons.drawn, REASON_DRAWN)))
+            + mixed(LATENESS_SEED, (*lateness.WALKS, several(lateness.drawn, LATENESS_DRAWN))))
 
 
 def more(count, seed):
     """A tenth of the calls on clashes, one in fifty beside halves of a tenth, one in fifty for estimates that take many rounds, one in
-    twenty each on files to tidy, on plans to follow and for reasons; of the others half under rule 2, half of all on tables with
-    releases."""
+    twenty each on files to tidy, on plans to follow, for reasons and for how late it can get; of the others half under rule 2, half of all
+    on tables with releases."""
     dice = random.Random(seed)
     for _ in range(count):
         chance = dice.random()
@@ -222,6 +225,8 @@ def more(count, seed):
             yield follows.drawn(dice)
         elif chance < 0.29:
             yield reasons.drawn(dice)
+        elif chance < 0.34:
+            yield lateness.drawn(dice)
         else:
             yield from drawn(dice, 1, dice.choice((ON_TIME, LATE, HYGIENE, HYGIENE)))
 

@@ -5,7 +5,7 @@ from itertools import combinations, product
 
 import rounds
 from draft import (HYGIENE, LATE, MOST, ON_TIME, WHY_NO_PLAN, WHY_START, Draft, base_draft, cut_to_limits, each_fault, landed,
-                   with_lengths)
+                   two_faults, with_lengths)
 from releases import chain_releases
 from settlings import least_starts, limits, rising_pairs, some_settling
 from tables import (LAST_BOUND, LAST_RELEASE, LONGEST, MOST_JOBS, NAMED, Problem, chain, drawn_table, facts_in, house, job, jobs_u,
@@ -232,14 +232,8 @@ def every_fault(dice):
     yield from each_fault(dice, HYGIENE, (11,), KINDS)
 
 
-def two_faults(dice):
-    """Every two faults together, at any jobs."""
-    for number, faults in enumerate(combinations(dict.fromkeys([*LATE.faults, *HYGIENE.faults]), 2)):
-        for kind in KINDS:
-            draft = base_draft(dice, kind, MOST_JOBS, (LATE, HYGIENE)[number % 2])
-            for fault in dice.sample(faults, 2):
-                fault(draft, dice, dice.randrange(len(draft.jobs)))
-            yield cut_to_limits(draft).call()
+def every_two_faults(dice):
+    return two_faults(dice, KINDS)
 
 
 def before_the_pairs(dice):
@@ -299,4 +293,4 @@ def drawn(dice):
 
 
 WALKS = (long_chains, ended_chains, several, some_of_p3, outsiders, unsettled, wrong_pairs, pair_limits, lengths, every_way, all_facts,
-         chain_costs, many_rounds, named, nothing_wanted, every_fault, two_faults, before_the_pairs)
+         chain_costs, many_rounds, named, nothing_wanted, every_fault, every_two_faults, before_the_pairs)

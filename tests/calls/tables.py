@@ -4,7 +4,7 @@ from dataclasses import dataclass, replace
 from call import Job
 
 OUT = 65535
-MOST_JOBS, LAST_BOUND, LONGEST, LAST_RELEASE = 24, 2880, 960, 2880
+MOST_JOBS, LAST_BOUND, LONGEST, LAST_RELEASE, MOST_OVERRUN = 24, 2880, 960, 2880, 96
 
 
 @dataclass(frozen=True)
@@ -265,6 +265,11 @@ def some_plan(dice, problem, left_out=0.15, slack=(0, 0, 0, 1, 4)):
 
 def last_end(problem, starts):
     return max((starts[j] + problem.jobs[j][3] for j in jobs_in(starts)), default=0)
+
+
+def to_its_end(problem, starts):
+    """The same table within the bound at which the plan ends."""
+    return replace(problem, bound=last_end(problem, starts))
 
 
 def with_goals(dice, problem, starts):

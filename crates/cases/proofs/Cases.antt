@@ -8,21 +8,23 @@ use Rattle.facts.specs.Least.{least, further, any}
 use Rattle.refusals.specs.Refusals.{refuseIf, refuseAt, refuseFor}
 use Rattle.rules.specs.Table.{between, strays, jobStrays, undoes, jobChecks, tableChecks, boundCheck}
 use Rattle.rules.specs.Clashes.{spoils, clashOf, interfere}
-use Rattle.rules.specs.Plans.{inPlan, ends, afterIf, finishes, holds}
+use Rattle.rules.specs.Plans.{starts, inPlan, ends, afterIf, finishes, holds}
 use Rattle.rules.specs.Verdicts.{late, early, overlap, clashes, clashFact, unready, missing, planChecks}
 use Rattle.rules.specs.Supports.{blocks, startFits, jobFits, name, named}
 use Rattle.rules.specs.Pairs.{isJob as supporting, feeds, binds, joined, pairIf, pairBytes}
 use Rattle.rules.specs.Estimates.{plus, cheapest, cost, condition, dearest}
 use Rattle.rules.specs.Reasons.{released, pushed, hindranceOf}
+use Rattle.rules.specs.Lateness.{overrunCheck}
+use Rattle.rules.proofs.Late.{greatestOf}
 use Rattle.tenths.specs.Tenths.{inRange, tenths}
 use Rattle.tenths.specs.Rounding.{float}
 use Rattle.tables.specs.Tables.{unmarked}
 use Rattle.cases.specs.Jobs.{facts}
 use Rattle.cases.specs.Claims.{AllHold}
-use Rattle.cases.specs.Cases.{cases}
+use Rattle.cases.specs.Cases.{out, cases}
 use Rattle.cases.proofs.Refute.{some, every, addIf, collect, include, dueIf, exclude, ahead, behind, isJob, atLeast, chain, broken, wants, guards, step, refute, hopeless}
 use Rattle.cases.proofs.Firsts.{sooner, dueBefore, noneBefore}
-use Rattle.cases.proofs.Shown.{plans-ok, none-ok, least-ok, judged-ok, touch-ok, tenths-ok, all, solves, estimates-ok, stands, keeps, settles, explains-ok, hinders-ok, takes-ok, refuses-ok}
+use Rattle.cases.proofs.Shown.{plans-ok, none-ok, least-ok, judged-ok, touch-ok, tenths-ok, all, solves, estimates-ok, stands, keeps, settles, explains-ok, hinders-ok, finishes-ok, takes-ok, refuses-ok}
 
 -- one case, and all that follow
 infixr 20 _also_
@@ -30,7 +32,7 @@ _also_ : {A B : Type 0} → A → B → A × B
 a also b = (a, b)
 
 pub all-hold : AllHold cases
-unfolding _also_ cases unmarked blocks startFits jobFits name named supporting feeds binds joined pairIf pairBytes facts has after least further any refuseIf refuseAt refuseFor between strays jobStrays undoes jobChecks tableChecks boundCheck inPlan spoils clashOf interfere ends afterIf finishes holds late early overlap clashes clashFact unready missing planChecks inRange tenths float some every addIf collect include dueIf exclude ahead behind isJob atLeast chain broken wants guards step refute hopeless sooner dueBefore noneBefore all solves plus cheapest cost condition dearest stands keeps settles hindranceOf
+unfolding _also_ cases unmarked blocks startFits jobFits name named supporting feeds binds joined pairIf pairBytes facts has after least further any refuseIf refuseAt refuseFor between strays jobStrays undoes jobChecks tableChecks boundCheck inPlan spoils clashOf interfere ends afterIf finishes holds late early overlap clashes clashFact unready missing planChecks inRange tenths float some every addIf collect include dueIf exclude ahead behind isJob atLeast chain broken wants guards step refute hopeless sooner dueBefore noneBefore all solves plus cheapest cost condition dearest stands keeps settles hindranceOf greatestOf overrunCheck
 all-hold =
     -- P1
     plans-ok refl refl tt
@@ -97,4 +99,15 @@ all-hold =
     also hinders-ok (0 ∷ 4 ∷ 4 ∷ 4 ∷ []) refl tt refl
     also hinders-ok (0 ∷ 4 ∷ 4 ∷ 4 ∷ []) refl tt refl
     also hinders-ok [] refl tt refl
+    -- Twelve
+    also finishes-ok (starts (0 ∷ 7 ∷ 4 ∷ 4 ∷ [])) (starts (0 ∷ 2 ∷ 1 ∷ 1 ∷ [])) refl refl tt tt (omega arith)
+    also finishes-ok (starts (0 ∷ 7 ∷ 4 ∷ 4 ∷ [])) (starts (0 ∷ 2 ∷ 1 ∷ 1 ∷ [])) refl refl tt tt (omega arith)
+    also finishes-ok (starts (0 ∷ 7 ∷ 4 ∷ 4 ∷ [])) (starts (0 ∷ 2 ∷ 1 ∷ 1 ∷ [])) refl refl tt tt (omega arith)
+    also finishes-ok (starts (0 ∷ 9 ∷ 5 ∷ 5 ∷ [])) (starts (0 ∷ 2 ∷ 1 ∷ 1 ∷ [])) refl refl tt tt (omega arith)
+    also finishes-ok (starts (0 ∷ 7 ∷ 6 ∷ 4 ∷ [])) (starts (0 ∷ 2 ∷ 1 ∷ 1 ∷ [])) refl refl tt tt (omega arith)
+    also finishes-ok (starts (0 ∷ 7 ∷ 4 ∷ 4 ∷ [])) (starts (0 ∷ 2 ∷ 1 ∷ 1 ∷ [])) refl refl tt tt (omega arith)
+    also finishes-ok (starts (0 ∷ out ∷ out ∷ out ∷ [])) (starts (0 ∷ out ∷ out ∷ out ∷ [])) refl refl tt tt (omega arith)
+    also finishes-ok (starts (out ∷ out ∷ out ∷ out ∷ [])) (starts (out ∷ out ∷ out ∷ out ∷ [])) refl refl tt tt (omega arith)
+    also refl
+    also refl
     also tt

@@ -4,7 +4,7 @@ use mathlib.Core.Path.{_≡_, refl, sym, _∙_, ap, subst}
 use mathlib.Core.Logic.{_⊎_, inl, inr, _↔_}
 use mathlib.Core.Bool.{Bool, not, _&&_, _||_, cond}
 use mathlib.Core.List.{List}
-use Prim.Native.Nat.{ℕ, _+_, _-_, _≤_, _<_}
+use Prim.Native.Nat.{ℕ, _+_, _*_, _-_, _≤_, _<_}
 use native.Mathlib.Omega.{arith}
 use lib.Dec.{T, eqb, ltb, eqb→eq, ltb→lt, T-not}
 use lib.Ieee.{Float}
@@ -22,6 +22,7 @@ use Rattle.rules.specs.Estimates.{dearest, Estimates}
 use Rattle.rules.specs.declared.Hindrance.{Hindrance}
 use Rattle.rules.specs.Settling.{Asked, Settled}
 use Rattle.rules.specs.Reasons.{fitsBefore, Chain, explained, hindranceOf}
+use Rattle.rules.specs.Lateness.{bindingPairs, LatestFinish}
 use Rattle.rules.specs.Order.{First, LeastBound, NoPlan, Planned, Bounded}
 use Rattle.refusals.proofs.Refused.{Checks, then-checks, went-on, stopped, if-pass}
 use Rattle.rules.proofs.CheckLists.{table-checks, bound-checks}
@@ -31,10 +32,11 @@ use Rattle.rules.proofs.Early.{estimates-only}
 use Rattle.rules.proofs.Settle.{Closed, Tight, tight-settled}
 use Rattle.rules.proofs.Chained.{fits-pair, fits-start, explained-only}
 use Rattle.rules.proofs.Hindered.{hindrance-only}
+use Rattle.rules.proofs.Late.{greatestOf, finish-of, ofOne, pairsOfOne, one-order, longest-of, latest-only}
 use Rattle.rules.proofs.Orders.{wider, planned-only, bounded-only}
 use Rattle.tenths.specs.Tenths.{inRange, AreTenths, tenths}
 use Rattle.tenths.proofs.Nearest.{tenths-are}
-use Rattle.cases.specs.Claims.{tableAndBound, Taken, RefusedWith, Plans, Refuses10, LeastIs, Judged, Touch, HasTenths, EstimatesAre, ExplainedBy, HinderedBy}
+use Rattle.cases.specs.Claims.{tableAndBound, Taken, RefusedWith, Plans, Refuses10, LeastIs, Judged, Touch, HasTenths, EstimatesAre, ExplainedBy, HinderedBy, FinishesAt}
 use Rattle.cases.proofs.Refute.{hopeless}
 use Rattle.cases.proofs.Firsts.{noneBefore, none, first, below-least}
 
@@ -210,3 +212,23 @@ explains-ok {P} {q} {j} {z} {l} taken t m s c = record {
   where
     f : Settled P q z
     f = settled-ok P q z t (ordered P 0 taken)
+
+-- ── the latest finish ──
+
+-- by the settled starts z, and w of jobs of one quarter hour each
+pub finishes-ok : {P : Problem} {bound k t : ℕ} {s : Plan} (z w : Plan) → tableAndBound P bound accepted ≡ accepted → planChecks P bound s accepted ≡ accepted
+    → T (settles P (bindingPairs P bound s) z) → T (settles (ofOne P) (pairsOfOne P bound s) w)
+    → t ≡ greatestOf (inPlan s) (finish P z) (P .count) + k * greatestOf (inPlan s) (finish (ofOne P) w) (P .count) → FinishesAt P bound s k t
+finishes-ok {P} {bound} {k} {t} {s} z w taken e x y h = record { valid = accepts P bound taken s .0 e; latest = f; only = λ u g. latest-only P ok bound s k u t g f }
+  where
+    ok : InOrder P
+    ok = ordered P bound taken
+
+    f : LatestFinish P bound s k t
+    f = record {
+      last = _;
+      settled = finish-of P (bindingPairs P bound s) z (settled-ok P (bindingPairs P bound s) z x ok);
+      jobs = _;
+      longest = longest-of P ok s bound _ (finish-of (ofOne P) (pairsOfOne P bound s) w (settled-ok (ofOne P) (pairsOfOne P bound s) w y (one-order P ok)));
+      sum = h;
+    }

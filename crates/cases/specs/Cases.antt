@@ -3,11 +3,12 @@
 use mathlib.Core.List.{List, [], _∷_}
 use Prim.Native.Nat.{ℕ, _+_}
 use lib.IntN.{pos, negℤ}
+use Rattle.refusals.specs.Refusals.{accepted, refused}
 use Rattle.rules.specs.declared.Hindrance.the-variants.{Never, TooDear, Neither}
 use Rattle.rules.specs.Table.{Problem}
 use Rattle.tenths.specs.Rounding.{float}
 use Rattle.cases.specs.Jobs.{action, problemOf, lasting, landing}
-use Rattle.cases.specs.Claims.{Claim, plans, noPlan, least, touching, offered, clashing, binding, tenths, estimates, explains, hinders, takes, refuses}
+use Rattle.cases.specs.Claims.{Claim, plans, noPlan, least, touching, offered, clashing, binding, tenths, estimates, explains, hinders, finishes, overruns, takes, refuses}
 use Rattle.tables.specs.declared.Action.{Action}
 
 -- ── jobs U ──
@@ -178,4 +179,20 @@ cases =
     ∷ hinders (U (0 ∷ 1 ∷ [])) 2880 Neither
     -- Ten: P7: fact 1 is never reachable
     ∷ hinders (problemOf [] 2 (0 ∷ []) (1 ∷ [])) 0 (Never 1)
+    -- Twelve: P3's plan: 12, with one quarter hour each 15, with 96 each 300; the longest chain is unpack, wash, drench
+    ∷ finishes (U (2 ∷ 3 ∷ 4 ∷ [])) 12 (0 ∷ 7 ∷ 4 ∷ 4 ∷ []) 0 12
+    ∷ finishes (U (2 ∷ 3 ∷ 4 ∷ [])) 12 (0 ∷ 7 ∷ 4 ∷ 4 ∷ []) 1 15
+    ∷ finishes (U (2 ∷ 3 ∷ 4 ∷ [])) 12 (0 ∷ 7 ∷ 4 ∷ 4 ∷ []) 96 300
+    -- Twelve: by rule 2 its plan is finished by 13, with one quarter hour each by 16
+    ∷ finishes (gapped (2 ∷ 3 ∷ 4 ∷ [])) 13 (0 ∷ 9 ∷ 5 ∷ 5 ∷ []) 1 16
+    -- Twelve: with warm from 6 on by 14, though no pair asks for more than 12
+    ∷ finishes (warmFrom 6) 20 (0 ∷ 7 ∷ 6 ∷ 4 ∷ []) 0 14
+    -- Twelve: a plan that itself ends at 18 is settled by 12
+    ∷ finishes (U (2 ∷ 3 ∷ 4 ∷ [])) 20 (1 ∷ 9 ∷ 10 ∷ 5 ∷ []) 0 12
+    -- Twelve: unpack alone is a chain of one, and the empty plan of P5 finishes at 0
+    ∷ finishes (U (1 ∷ [])) 4 (0 ∷ out ∷ out ∷ out ∷ []) 1 5
+    ∷ finishes (U (0 ∷ [])) 0 (out ∷ out ∷ out ∷ out ∷ []) 96 0
+    -- Twelve: 96 quarter hours are taken, 97 refused with 34
+    ∷ overruns 96 accepted
+    ∷ overruns 97 (refused 34 0)
     ∷ []

@@ -18,6 +18,7 @@ use Rattle.rules.specs.Estimates.{Estimates}
 use Rattle.rules.specs.Settling.{Asked, askedBy, Settled}
 use Rattle.rules.specs.declared.Hindrance.{Hindrance}
 use Rattle.rules.specs.Reasons.{Chain, Explained, hindranceOf}
+use Rattle.rules.specs.Lateness.{LatestFinish, overrunCheck}
 use Rattle.rules.specs.Order.{First, LeastBound, NoPlan, Planned, Bounded}
 use Rattle.times.specs.Times.{pairFirst, pairSecond}
 use Rattle.tenths.specs.Tenths.{inRange, AreTenths}
@@ -47,6 +48,10 @@ pub data Claim : Type 0 where
   explains : Problem → (set pairs : List ℕ) → (bound job : ℕ) → (starts chain : List ℕ) → Claim
   -- this is why there is no plan within the bound, as far as the estimates tell
   hinders : Problem → (bound : ℕ) → Hindrance → Claim
+  -- the plan is valid, and where each of its jobs runs up to k quarter hours over this is the latest finish
+  finishes : Problem → (bound : ℕ) → (starts : List ℕ) → (k latest : ℕ) → Claim
+  -- of an overrun of k this is said
+  overruns : (k : ℕ) → Verdict → Claim
   -- checks 4 to 9 and 20 take the table and the bound
   takes : Problem → (bound : ℕ) → Claim
   -- checks 4 to 9 and 20 refuse the table or the bound with this number and place
@@ -125,6 +130,12 @@ pub record ExplainedBy (P : Problem) (q : Asked) (j : ℕ) (z : Plan) (l : List 
 pub record HinderedBy (P : Problem) (bound : ℕ) (h : Hindrance) : Type 0 where
   pub tells : (est : ℕ → ℕ) → Estimates P est → hindranceOf P est bound ≡ h
 
+-- the plan is valid, t is its latest finish, and no other number is
+pub record FinishesAt (P : Problem) (bound : ℕ) (s : Plan) (k t : ℕ) : Type 0 where
+  pub valid : Valid P bound s
+  pub latest : LatestFinish P bound s k t
+  pub only : (u : ℕ) → LatestFinish P bound s k u → u ≡ t
+
 -- what a case claims of the rules
 abbrev pub IsSo : Claim → Type 0
 IsSo (plans P bound l) = Plans P bound (starts l)
@@ -138,6 +149,8 @@ IsSo (tenths x t) = HasTenths x t
 IsSo (estimates P l) = EstimatesAre P (starts l)
 IsSo (explains P set pairs bound j l m) = ExplainedBy P (asking P set pairs bound) j (starts l) m
 IsSo (hinders P bound h) = HinderedBy P bound h
+IsSo (finishes P bound l k t) = FinishesAt P bound (starts l) k t
+IsSo (overruns k v) = overrunCheck k accepted ≡ v
 IsSo (takes P bound) = Taken P bound
 IsSo (refuses P bound number place) = RefusedWith P bound number place
 

@@ -33,12 +33,12 @@ use Rattle.tables.proofs.Calls.{cleared}
 use Rattle.verdict.specs.Offered.{offered}
 use Rattle.verdict.specs.Steps.{Sound}
 use Rattle.verdict.proofs.Accepted.{offered-checks, sound, exactly}
-use Rattle.bindings.specs.Bindings.{Supports, supportVerdict, Pairs, pairVerdict}
+use Rattle.bindings.specs.Bindings.{InBytes, BindsIn, Supports, supportVerdict, Pairs, pairVerdict}
 use Rattle.bindings.proofs.Count.{pairs-room}
+use Rattle.bindings.proofs.Listed.{listed}
 use Rattle.planning.specs.Planning.{planningChecks, PlansWithin, BoundsWithin}
 use Rattle.planning.proofs.Found.{plan-found, bound-found}
-use Rattle.demands.specs.Kept.{InBytes, AllowedBy, BindsIn, Foreman, Backing, Usable, withBound}
-use Rattle.demands.proofs.Listed.{listed}
+use Rattle.demands.specs.Kept.{AllowedBy, Foreman, Backing, Usable, withBound}
 use Rattle.rules.proofs.SamePlan.{valid-same}
 
 -- ── the pairs in the bytes are the binding pairs ──

@@ -10,18 +10,13 @@ use lib.ListN.{length, getD}
 use Rattle.rules.specs.Table.{Problem}
 use Rattle.rules.specs.Plans.{Plan, starts, In}
 use Rattle.rules.specs.Supports.{wants, whoseRow}
-use Rattle.rules.specs.Pairs.{binds}
 use Rattle.rules.specs.Execution.{began, finished, Log, Logged, MayFinish, Complete, Conditions, AsPlanned}
 use Rattle.tables.specs.declared.Loaded.{Loaded}
 use Rattle.tables.specs.declared.Ask.{Ask}
 use Rattle.tables.specs.declared.Answer.{Answer}
 use Rattle.tables.specs.Tables.{problem}
 use Rattle.verdict.specs.Offered.{ChecksPlan}
-use Rattle.bindings.specs.Bindings.{Supports, Pairs}
-
--- job a, then job b, is one of the first n pairs of the bytes
-abbrev pub InBytes : (bytes : List ℕ) (n a b : ℕ) → Type 0
-InBytes bytes n a b = (i : ℕ) × (i < n) × (getD bytes (2 * i) 0 ≡ a) × (getD bytes (2 * i + 1) 0 ≡ b)
+use Rattle.bindings.specs.Bindings.{InBytes, BindsIn, Supports, Pairs}
 
 -- a job of the plan may start once, when the first job of each pair listed with it has finished
 pub record MayStartBy (P : Problem) (s : Plan) (bytes : List ℕ) (n : ℕ) (h : Log) (j : ℕ) : Type 0 where
@@ -34,10 +29,6 @@ abbrev pub AllowedBy : Problem → Plan → (bytes : List ℕ) (n : ℕ) → Log
 AllowedBy P s bytes n [] = Unit {0}
 AllowedBy P s bytes n (began j ∷ h) = MayStartBy P s bytes n h j × AllowedBy P s bytes n h
 AllowedBy P s bytes n (finished j ∷ h) = MayFinish h j × AllowedBy P s bytes n h
-
--- job a, then job b, both of the table, is a binding pair
-abbrev pub BindsIn : Problem → Plan → (a b : ℕ) → Type 0
-BindsIn P s a b = (a < P .count) × (b < P .count) × T (binds P s a b)
 
 -- whatever moments the foreman chooses, if the pairs of the bytes keep their order: conditions hold while the house is still working, and when all
 -- jobs have finished all is as planned; there is such a log, and the pairs of the bytes are exactly the binding pairs

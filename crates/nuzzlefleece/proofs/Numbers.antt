@@ -14,6 +14,8 @@ use Rattle.following.proofs.Watch as watch
 use Rattle.following.proofs.Watch.Laws as watch′
 use Rattle.following.proofs.Screen as screen
 use Rattle.following.proofs.Screen.Laws as screen′
+use Rattle.lateness.proofs.Overruns as overrun
+use Rattle.lateness.proofs.Overruns.Laws as overrun′
 use Rattle.reasons.proofs.Question as question
 use Rattle.reasons.proofs.Question.Laws as question′
 use Rattle.reasons.proofs.Reason as reason
@@ -43,6 +45,9 @@ watches = record { type = watch.the-type; laws = watch′.the-laws; plain = watc
 
 abbrev pub screens : Numbers
 screens = record { type = screen.the-type; laws = screen′.the-laws; plain = screen′.the-plain; last = λ p. tt; still = λ p l. refl }
+
+abbrev pub overruns : Numbers
+overruns = record { type = overrun.the-type; laws = overrun′.the-laws; plain = overrun′.the-plain; last = λ p. tt; still = λ p l. refl }
 
 abbrev pub questions : Numbers
 questions = record { type = question.the-type; laws = question′.the-laws; plain = question′.the-plain; last = λ p. tt; still = λ p l. refl }

@@ -14,6 +14,9 @@ use Rattle.following.specs.declared.Watch.{Watch}
 use Rattle.following.specs.declared.Screen.{Screen}
 use Rattle.following.specs.Screens.{Following}
 use Rattle.following.proofs.Only as following
+use Rattle.lateness.specs.declared.Overruns.{Overruns}
+use Rattle.lateness.specs.Lateness.{HowLate}
+use Rattle.lateness.proofs.Only as lateness
 use Rattle.estimates.specs.Earliest.{Earliest}
 use Rattle.estimates.proofs.Only as estimates
 use Rattle.settle.specs.Settle.{Settling}
@@ -63,6 +66,10 @@ module _ (ts : List Action) (q : Ask) (r s : Answer) where
 -- what the screen is handed is one struct
 pub follow-only : (ts : List Action) (w : Watch) (starts : List ℕ) (r s : Screen) → Following (loaded ts) w starts r → Following (loaded ts) w starts s → r ≡ s
 follow-only ts w starts r s = following.follow-only (loaded ts) w starts r s
+
+-- what is asked of a plan that runs over is one struct
+pub how-late-only : (ts : List Action) (o : Overruns) (starts : List ℕ) (r s : Answer) → HowLate (loaded ts) o starts r → HowLate (loaded ts) o starts s → r ≡ s
+how-late-only ts o starts r s = lateness.how-late-only (loaded ts) o starts r s
 
 -- what is asked of a start is one struct, and so is the reason
 pub why-start-only : (ts : List Action) (q : Question) (pairs old new new′ : List ℕ) (r s : Answer) → WhyStart (loaded ts) q pairs old new r → WhyStart (loaded ts) q pairs old new′ s → (r ≡ s) × (new ≡ new′)

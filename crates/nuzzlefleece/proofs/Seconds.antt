@@ -28,6 +28,9 @@ use Rattle.rules.proofs.Answering.{no-second}
 use Rattle.following.specs.declared.Watch.{Watch}
 use Rattle.following.specs.declared.Screen.{Screen}
 use Rattle.following.specs.Screens.{Following}
+use Rattle.lateness.specs.declared.Overruns.{Overruns}
+use Rattle.lateness.specs.Lateness.{lateVerdict, HowLate}
+use Rattle.lateness.proofs.Only.{late-checks}
 use Rattle.estimates.specs.Earliest.{Earliest}
 use Rattle.settle.specs.Settle.{settlingChecks, Settling}
 use Rattle.settle.proofs.Faults.{all-checks}
@@ -128,6 +131,9 @@ module _ (l : Loaded) (q : Ask) (r : Answer) where
 
 pub follow-second : (l : Loaded) (w : Watch) (s : List ℕ) (r : Screen) → Following l w s r → Told12 (r .answer)
 follow-second l w s r x = answered (offered false l (w .ask) s (x .v)) 0 0 (behind (offered-checks false l (w .ask) s) (x .v) (λ e z. no-second _ _ _ _ _ _ _ _ _ _ _ (x .behind e))) (x .says)
+
+pub how-late-second : (l : Loaded) (o : Overruns) (s : List ℕ) (r : Answer) → HowLate l o s r → Told12 r
+how-late-second l o s r x = answered (lateVerdict l o s) (x .t) 0 (seconds _ (late-checks l o s) accepted none) (x .says)
 
 -- ── reasons ──
 

@@ -6,6 +6,7 @@ ghost use Rattle.interference.specs.Records.{recordMasks};
 ghost use Rattle.verdict.specs.Offered.{ChecksPlan};
 ghost use Rattle.bindings.specs.Bindings.{Supports, Pairs};
 ghost use Rattle.following.specs.Screens.{Following};
+ghost use Rattle.lateness.specs.Lateness.{HowLate};
 ghost use Rattle.estimates.specs.Earliest.{Earliest};
 ghost use Rattle.settle.specs.Settle.{Settling};
 ghost use Rattle.reasons.specs.Reasons.{WhyStart, WhyNoPlan};
@@ -21,6 +22,7 @@ ghost use Rattle.page.specs.Page.{Pages};
 use following::Screen;
 use following::Watch;
 use jobfile::Read;
+use lateness::Overruns;
 use readings::BenchReading;
 use readings::Opening;
 use reasons::Question;
@@ -36,7 +38,7 @@ use tables::Loaded;
 pub extern "C" fn nuzzlefleece_version() -> u32
     ensures { λ r. ⌜ r ≡ version ⌝ }
 {
-    10700
+    10800
 }
 
 // The verdict on an offered plan.
@@ -109,6 +111,15 @@ pub extern "C" fn nuzzlefleece_follow(t: &[Action], w: Watch, starts: &[u16]) ->
 {
     let l = records::load(t);
     following::follow(l, w, starts)
+}
+
+// When all is finished at the latest, where each job of a valid plan runs over by up to so many quarter hours.
+#[no_mangle]
+pub extern "C" fn nuzzlefleece_how_late(t: &[Action], o: Overruns, starts: &[u16]) -> Answer
+    ensures { λ r. ⌜ HowLate (loaded (now (t .entry))) o (now (starts .entry)) r ⌝ }
+{
+    let l = records::load(t);
+    lateness::how_late(l, o, starts)
 }
 
 // The earliest estimates, one a job.

@@ -11,14 +11,14 @@ use lib.ListN.{length, getD}
 use Rattle.facts.specs.Facts.{has}
 use Rattle.refusals.specs.Refusals.{Verdict, accepted}
 use Rattle.facts.proofs.Bools.{same}
-use Rattle.refusals.proofs.Refused.{went-on, ruled-yes}
+use Rattle.refusals.proofs.Refused.{went-on}
 use Rattle.rules.specs.declared.Hindrance.{Hindrance}
 use Rattle.rules.specs.declared.Hindrance.the-variants.{Never, TooDear, Neither}
 use Rattle.rules.specs.Plans.{Plan, starts, Valid}
 use Rattle.rules.specs.Order.{NoPlan}
 use Rattle.rules.specs.Settling.{Settled, settleChecks}
 use Rattle.rules.specs.Reasons.{Chain, Explained, unsettled, outside, explained, hindranceOf}
-use Rattle.rules.proofs.Settle.{settled-only, settled-same}
+use Rattle.rules.proofs.Settle.{settled-only}
 use Rattle.rules.proofs.Chained.{PlaceByPlace, chain-same, chain-places, chain-count}
 use Rattle.rules.proofs.Hindered.{Meant, hindrance-true}
 use Rattle.tables.specs.declared.Loaded.{Loaded}
@@ -28,11 +28,11 @@ use Rattle.tables.specs.Tables.{problem, answerOf, written, callChecks}
 use Rattle.tables.proofs.Laws.{accepts, changed-new}
 use Rattle.tables.proofs.Lent.{filled-at, filled-rest}
 use Rattle.tables.proofs.Calls.{call-checks, cleared}
-use Rattle.tables.proofs.Fills.{Found, fills-found}
 use Rattle.times.specs.Times.{pairFirst, pairSecond, wanted}
 use Rattle.settle.specs.Settle.{settlingChecks, Settling}
 use Rattle.settle.specs.Steps.{Settleable}
 use Rattle.settle.proofs.Faults.{all-checks, settleable}
+use Rattle.settle.proofs.Starts.{checks-pass, are-settled}
 use Rattle.reasons.specs.declared.Question.{Question}
 use Rattle.reasons.specs.declared.Reason.{Reason}
 use Rattle.reasons.specs.Reasons.{WhyStart, reasonOf, reasonVerdict, WhyNoPlan}
@@ -102,25 +102,16 @@ module _ (l : Loaded) (q : Question) (bytes old new : List ℕ) (r : Answer) (f 
 
   -- where `settle` with the same numbers and pairs fills starts, those are the ones explained
   module _ {old₂ new₂ : List ℕ} {r₂ : Answer} (x : Settling l (q .ask) bytes old₂ new₂ r₂) (done : r₂ .number ≡ 0) (lent : q .ask .jobs ≤ length old) where
-    abbrev found : Found (all-checks l (q .ask) bytes (length old₂)) _ 0 (q .ask .jobs) old₂ x
-    found = fills-found (all-checks l (q .ask) bytes (length old₂)) _ 0 (q .ask .jobs) old₂ x done
-
     room₂ : q .ask .jobs ≤ length old₂
-    room₂ = settleable l (q .ask) bytes (length old₂) (found .checks) .wide
-
-    filled-starts : (i : ℕ) → i < q .ask .jobs → x .s i ≡ starts new₂ i
-    filled-starts i m = sym (ap (λ (ys : List ℕ). starts ys i) (found .table) ∙ filled-at (x .s) (q .ask .jobs) old₂ i 0 m (omega (arith, room₂)))
-
-    are-settled : Settled (problem l (q .ask)) (wanted l (q .ask) bytes) (starts new₂)
-    are-settled = settled-same (problem l (q .ask)) (wanted l (q .ask) bytes) (x .s) (starts new₂) filled-starts (ruled-yes 16 (x .v) (omega arith) (x .behind (found .checks) .1) (found .zero) .1)
+    room₂ = settleable l (q .ask) bytes (length old₂) (checks-pass l (q .ask) bytes x done) .wide
 
     -- room enough in both calls: their checks say the same
     same-checks : C accepted ≡ accepted
     same-checks = ap (λ (b : Bool). callChecks (b || ltb (length bytes / 2) (q .ask .pairs)) (q .ask .bound) l (q .ask) (settleChecks (problem l (q .ask)) (q .ask .set) (pairFirst bytes) (pairSecond bytes) (q .ask .pairs) accepted))
-        (same (ltb (length old) (q .ask .jobs)) (ltb (length old₂) (q .ask .jobs)) (λ t. absurd (omega (arith, ltb→lt (length old) (q .ask .jobs) t))) (λ t. absurd (omega (arith, room₂, ltb→lt (length old₂) (q .ask .jobs) t)))) ∙ found .checks
+        (same (ltb (length old) (q .ask .jobs)) (ltb (length old₂) (q .ask .jobs)) (λ t. absurd (omega (arith, ltb→lt (length old) (q .ask .jobs) t))) (λ t. absurd (omega (arith, room₂, ltb→lt (length old₂) (q .ask .jobs) t)))) ∙ checks-pass l (q .ask) bytes x done
 
     pub by-settle : T (has (q .ask .set) (q .job)) → (r .number ≡ 0) × Gives (starts new₂)
-    by-settle t = is-given same-checks (starts new₂) are-settled t
+    by-settle t = is-given same-checks (starts new₂) (are-settled l (q .ask) bytes x done) t
 
 -- ── the reason ──
 

@@ -3,20 +3,23 @@
 use mathlib.Core.Path.{_≡_, refl, sym, ap, _∙_}
 use mathlib.Core.Logic.{inl, inr}
 use mathlib.Core.List.{List}
-use Prim.Native.Nat.{ℕ}
+use Prim.Native.Nat.{ℕ, _<_}
 use native.Mathlib.Omega.{arith}
 use native.Mathlib.Decide.{ℕ-discrete}
 use lib.ListN.{length}
 use Rattle.refusals.specs.Refusals.{Verdict, accepted, refused}
 use Rattle.refusals.proofs.Refused.{stopped, went-on, ruled-yes}
-use Rattle.rules.specs.Plans.{Plan}
+use Rattle.rules.specs.Plans.{Plan, starts}
 use Rattle.rules.specs.Settling.{Obeys, Settled}
+use Rattle.rules.proofs.Settle.{settled-same}
 use Rattle.tables.specs.declared.Loaded.{Loaded}
 use Rattle.tables.specs.declared.Ask.{Ask}
 use Rattle.tables.specs.declared.Answer.{Answer}
 use Rattle.tables.specs.Tables.{problem, answerOf, filled}
 use Rattle.tables.proofs.Laws.{said, numbered, accepts, changed-new, changed-old}
+use Rattle.tables.proofs.Lent.{filled-at}
 use Rattle.tables.proofs.Calls.{goes-behind}
+use Rattle.tables.proofs.Fills.{Found, fills-found}
 use Rattle.entries.specs.Entries.{entry}
 use Rattle.times.specs.Times.{wanted}
 use Rattle.settle.specs.declared.Settlement.{Settlement}
@@ -83,3 +86,17 @@ module _ (l : Loaded) (q : Ask) (bytes old : List ℕ) (r : Settlement) (s : Set
     says = s .says;
     leaves = e ∙ sym (changed-new (settlingChecks l q bytes (length old) (s .v)) table old (sym (numbered 0 0 (s .says)) ∙ z));
   }
+
+-- the starts that a call has filled are settled
+module _ (l : Loaded) (q : Ask) (bytes : List ℕ) {old new : List ℕ} {r : Answer} (x : Settling l q bytes old new r) (done : r .number ≡ 0) where
+  abbrev found : Found (all-checks l q bytes (length old)) _ 0 (q .jobs) old x
+  found = fills-found (all-checks l q bytes (length old)) _ 0 (q .jobs) old x done
+
+  pub checks-pass : settlingChecks l q bytes (length old) accepted ≡ accepted
+  checks-pass = found .checks
+
+  pub are-settled : Settled (problem l q) (wanted l q bytes) (starts new)
+  are-settled = settled-same (problem l q) (wanted l q bytes) (x .s) (starts new) same (ruled-yes 16 (x .v) (omega arith) (x .behind (found .checks) .1) (found .zero) .1)
+    where
+      same : (i : ℕ) → i < q .jobs → x .s i ≡ starts new i
+      same i m = sym (ap (λ (ys : List ℕ). starts ys i) (found .table) ∙ filled-at (x .s) (q .jobs) old i 0 m (omega (arith, settleable l q bytes (length old) (found .checks) .wide)))

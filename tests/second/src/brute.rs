@@ -1,7 +1,8 @@
 //! Slow ways, for the self-test only. To the first plan: every start vector in the stated order, and every order
 //! of jobs with each job as early as the ones before it and its release allow. To estimates and settled starts:
 //! every start vector. To clashes: every fact; to overlaps: every quarter hour. To what events are allowed: every log. To
-//! the chain of a job: every sequence of jobs; to what goals cost: every quarter hour.
+//! the chain of a job: every sequence of jobs; to what goals cost: every quarter hour. To how late it can get: every
+//! sequence of jobs, every overrun of each job, and every quarter hour of a run.
 
 use crate::following::{Event, Worked};
 use crate::reasons::Reason;
@@ -204,14 +205,19 @@ pub fn every_log(worked: &Worked) -> Logs {
     logs
 }
 
+/// Each of the sequences with each of these behind it.
+fn one_longer<T: Copy>(sequences: &[Vec<T>], among: &[T]) -> Vec<Vec<T>> {
+    let longer = |sequence: &Vec<T>| -> Vec<Vec<T>> {
+        among.iter().map(|&one| [&sequence[..], &[one]].concat()).collect()
+    };
+    sequences.iter().flat_map(longer).collect()
+}
+
 /// Every sequence of these jobs that is no longer than they are many, also with a job more than once.
 pub fn sequences(jobs: &[usize]) -> Vec<Vec<usize>> {
     let (mut all, mut longest) = (Vec::new(), vec![vec![]]);
     for _ in jobs {
-        longest = longest
-            .iter()
-            .flat_map(|sequence: &Vec<usize>| jobs.iter().map(move |&job| [&sequence[..], &[job]].concat()))
-            .collect();
+        longest = one_longer(&longest, jobs);
         all.extend(longest.clone());
     }
     all
@@ -264,4 +270,37 @@ pub fn reason(problem: &Problem) -> Reason {
     let never = (0..FACTS).filter(goal).find(|&fact| first[fact].is_none());
     let late = (0..FACTS).filter(goal).find(|&fact| first[fact] > Some(problem.bound as u32));
     never.map(Reason::Never).or(late.map(Reason::TooDear)).unwrap_or(Reason::Neither)
+}
+
+/// The most jobs in one sequence of the plan's jobs in which every two neighbours are a binding pair.
+pub fn longest_sequence(worked: &Worked) -> usize {
+    let jobs: Vec<usize> = (0..worked.starts.len()).filter(|&job| is_in(worked.starts[job])).collect();
+    let paired = |two: &[usize]| worked.pairs.contains(&(two[0] as u8, two[1] as u8));
+    let chains = sequences(&jobs).into_iter().filter(|sequence| sequence.windows(2).all(paired));
+    chains.map(|chain| chain.len()).max().unwrap_or(0)
+}
+
+/// Every way in which so many jobs run over by up to `most` each.
+pub fn every_overrun(jobs: usize, most: u16) -> Vec<Vec<u16>> {
+    let amounts: Vec<u16> = (0..=most).collect();
+    (0..jobs).fold(vec![vec![]], |overruns, _| one_longer(&overruns, &amounts))
+}
+
+/// Whether a job runs as it must, looked at quarter hour by quarter hour until it is finished: it has started exactly if
+/// its release has come and each job that binds it has finished, with the gap behind it.
+fn job_runs(worked: &Worked, job: usize, overrun: u16, finishes: &[u32]) -> bool {
+    let (record, gap) = (&worked.problem.jobs[job], worked.problem.gap as u32);
+    let firsts = worked.pairs.iter().filter(|pair| pair.1 as usize == job);
+    let over: Vec<u32> = firsts.map(|pair| finishes[pair.0 as usize] + gap).collect();
+    let may_have = |time: u32| record.release as u32 <= time && over.iter().all(|&end| end <= time);
+    match finishes[job].checked_sub(record.duration as u32 + overrun as u32) {
+        Some(start) => (0..=finishes[job]).all(|time| (start <= time) == may_have(time)),
+        None => false,
+    }
+}
+
+/// Whether these are the finishes of the run with these overruns.
+pub fn is_run(worked: &Worked, overruns: &[u16], finishes: &[u32]) -> bool {
+    let inside = |&job: &usize| is_in(worked.starts[job]);
+    (0..worked.starts.len()).filter(inside).all(|job| job_runs(worked, job, overruns[job], finishes))
 }

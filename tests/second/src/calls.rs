@@ -1,7 +1,9 @@
 //! A stream of calls: a header of 16 words, the lent records, the given tables; one line of answer a call.
 
+use crate::examples::Dice;
 use crate::files::{job_bytes, job_from, read_file, tidy, write_file, Saved};
 use crate::following::{follow, Watch};
+use crate::lateness::{how_late, last_finish, overrunning};
 use crate::plan::{least_bound, plan_within};
 use crate::readings::{opening_facts, Marks, Reading};
 use crate::reasons::{why_no_plan, why_start, Reason};
@@ -12,6 +14,10 @@ use std::io::{self, BufRead, Read, Write};
 
 const WORDS: usize = 16;
 const RECORD: usize = 32;
+
+/// How many runs of a plan have drawn overruns, and where the throws begin.
+const DRAWN_RUNS: usize = 24;
+const RUNS_SEED: u64 = 0x0ae2_2025_1a7e_0511;
 
 /// One call as it stands in the stream.
 struct Call {
@@ -126,6 +132,10 @@ impl Call {
         vec![u16::from_le_bytes([self.head[11] as u8; 2]); self.head[10] as usize]
     }
 
+    fn most_overrun(&self) -> u16 {
+        self.head[12] as u16
+    }
+
     /// The line that answers the call.
     fn answer(&self) -> String {
         match self.head[0] {
@@ -152,6 +162,7 @@ impl Call {
                 why_start(&self.given(), set, pair_count, &self.table, job as u8, table)
             }),
             15 => self.answer_no_plan(),
+            16 => told(&how_late(&self.given(), &halves(&self.table), self.most_overrun()), 0),
             _ => unknown(),
         }
     }
@@ -214,15 +225,47 @@ impl Call {
         let reason = why_no_plan(&self.given());
         format!("{} {}", told(&reason.map(|_| 0), 0), told_reason(reason.ok()))
     }
+
+    /// When the last of some runs of the plan is finished, if the call asks how late it can get and is not refused: those
+    /// in which no job runs over and in which every job does as far as it may, and drawn ones, by the same throws in
+    /// every call.
+    fn latest_run(&self) -> Option<u32> {
+        let (given, starts, most) = (self.given(), halves(&self.table), self.most_overrun());
+        let worked = overrunning(&given, &starts, most).ok().filter(|_| self.head[0] == 16)?;
+        let jobs = worked.starts.len();
+        let mut dice = Dice(RUNS_SEED);
+        let drawn = (0..DRAWN_RUNS).map(|_| dice.overruns(jobs, most));
+        let runs = [vec![0; jobs], vec![most; jobs]].into_iter().chain(drawn);
+        runs.map(|overruns| last_finish(&worked, &overruns)).max()
+    }
+
+    /// The line that tells of these runs.
+    fn told_runs(&self) -> String {
+        self.latest_run().map_or("none".to_string(), |finish| finish.to_string())
+    }
 }
 
-/// Answers every call of the stream. What is written goes out as soon as no further call waits to be read.
-pub fn run(input: &mut io::BufReader<impl Read>, output: &mut impl Write) -> io::Result<()> {
+/// Writes a line for every call of the stream. What is written goes out as soon as no further call waits to be read.
+fn write_lines(
+    input: &mut io::BufReader<impl Read>,
+    output: &mut impl Write,
+    line: impl Fn(&Call) -> String,
+) -> io::Result<()> {
     while let Some(call) = next_call(input)? {
-        writeln!(output, "{}", call.answer())?;
+        writeln!(output, "{}", line(&call))?;
         if input.buffer().is_empty() {
             output.flush()?;
         }
     }
     output.flush()
+}
+
+/// Answers every call of the stream.
+pub fn run(input: &mut io::BufReader<impl Read>, output: &mut impl Write) -> io::Result<()> {
+    write_lines(input, output, Call::answer)
+}
+
+/// Runs the plan of every call of the stream that asks how late it can get.
+pub fn run_over(input: &mut io::BufReader<impl Read>, output: &mut impl Write) -> io::Result<()> {
+    write_lines(input, output, Call::told_runs)
 }

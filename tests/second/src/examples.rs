@@ -253,6 +253,11 @@ impl Dice {
         starts
     }
 
+    /// By how many quarter hours each of so many jobs runs over, up to `most`.
+    pub fn overruns(&mut self, jobs: usize, most: u16) -> Vec<u16> {
+        (0..jobs).map(|_| self.below(most as u64 + 1) as u16).collect()
+    }
+
     fn job(&mut self, atoms: u64, longest: u64) -> Job {
         let additions = 1 << self.below(atoms) | self.facts(1, atoms);
         Job {

@@ -75,7 +75,7 @@ impl<'a> Worked<'a> {
     }
 
     /// The jobs that bind a job: the firsts of the pairs in which it is the second.
-    fn binding(&self, job: usize) -> impl Iterator<Item = usize> + '_ {
+    pub fn binding(&self, job: usize) -> impl Iterator<Item = usize> + '_ {
         self.pairs.iter().filter(move |pair| pair.1 as usize == job).map(|pair| pair.0 as usize)
     }
 

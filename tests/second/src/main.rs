@@ -6,6 +6,7 @@ mod calls;
 mod examples;
 mod files;
 mod following;
+mod lateness;
 mod plan;
 mod readings;
 mod reasons;
@@ -28,6 +29,10 @@ fn answer_calls() -> io::Result<()> {
     calls::run(&mut BufReader::new(io::stdin()), &mut BufWriter::new(io::stdout()))
 }
 
+fn print_runs() -> io::Result<()> {
+    calls::run_over(&mut BufReader::new(io::stdin()), &mut BufWriter::new(io::stdout()))
+}
+
 fn status(result: io::Result<()>) -> ExitCode {
     match result {
         Ok(()) => ExitCode::SUCCESS,
@@ -42,9 +47,10 @@ fn main() -> ExitCode {
     match std::env::args().nth(1).as_deref() {
         Some("bench") => status(print_bench()),
         Some("calls") => status(answer_calls()),
+        Some("runs") => status(print_runs()),
         Some("selftest") => selftest::run(),
         _ => {
-            eprintln!("usage: second bench | calls | selftest");
+            eprintln!("usage: second bench | calls | runs | selftest");
             ExitCode::from(2)
         }
     }

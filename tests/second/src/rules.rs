@@ -211,7 +211,7 @@ pub fn finish(job: &Job, start: u16) -> u32 {
 }
 
 /// The jobs that are in, by number.
-fn jobs_in<'a>(starts: &'a [u16]) -> impl Iterator<Item = usize> + 'a {
+pub fn jobs_in<'a>(starts: &'a [u16]) -> impl Iterator<Item = usize> + 'a {
     (0..starts.len()).filter(move |&job| is_in(starts[job]))
 }
 

@@ -5,12 +5,14 @@ use crate::calls;
 use crate::examples::{chain, go_twice, house, job, jobs_u, trolley, word, Dice, Example};
 use crate::files::{job_bytes, read_file, tidy, write_file, Saved};
 use crate::following::{follow, Event, Screen, Watch, Worked};
+use crate::lateness::{finishes, how_late, last_finish, overrunning};
 use crate::plan::{least_bound, plan_within};
 use crate::readings::{opening_facts, tenths, Marks, Reading};
 use crate::reasons::{reason, why_no_plan, why_start, Reason};
 use crate::rules::{
-    binding_pairs, check_bounded_table, check_offered, check_plan, clash, estimates, facts_at, job_estimates,
-    members, pairs_of, settle, supports, Clash, Given, Job, Problem, Refusal, NO_SUPPORT, OUT, START,
+    binding_pairs, check_bounded_table, check_offered, check_plan, clash, estimates, facts_at, finish,
+    job_estimates, jobs_in, members, pairs_of, settle, supports, Clash, Given, Job, Problem, Refusal,
+    NO_SUPPORT, OUT, START,
 };
 use crate::{bench, rules};
 use std::process::ExitCode;
@@ -59,6 +61,7 @@ pub fn run() -> ExitCode {
     test_settling(&mut tally);
     test_why_start(&mut tally);
     test_why_no_plan(&mut tally);
+    test_how_late(&mut tally);
     test_gap_as_length(&mut tally);
     test_table_checks(&mut tally);
     test_rule_marks(&mut tally);
@@ -583,6 +586,12 @@ fn test_touching_adder(tally: &mut Tally) {
     }
 }
 
+/// What settling a plan's jobs by its binding pairs is asked with: the set and the pairs.
+fn settling_of(problem: &Problem, starts: &[u16]) -> (u64, Vec<u8>) {
+    let pairs = pairs_of(problem, starts).into_iter().flat_map(|(a, b)| [a, b]).collect();
+    (jobs_in(starts).fold(0, |set, job| set | 1 << job), pairs)
+}
+
 /// Every condition has a support, and settling the binding pairs keeps the plan valid and makes nothing later.
 fn check_random_pairs(tally: &mut Tally, example: &Example) {
     let Ok(starts) = plan_of(example) else { return };
@@ -594,8 +603,7 @@ fn check_random_pairs(tally: &mut Tally, example: &Example) {
         tally.check("a support", members(problem.jobs[job].conditions).all(|fact| row[fact] != NO_SUPPORT));
         tally.check("not before the estimate", job_estimates(&problem)[job] <= start);
     }
-    let pairs: Vec<u8> = pairs_of(&problem, &starts).into_iter().flat_map(|(a, b)| [a, b]).collect();
-    let set = (0..starts.len()).filter(|&job| starts[job] != OUT).fold(0, |set, job| set | 1 << job);
+    let (set, pairs) = settling_of(&problem, &starts);
     let mut settled = vec![0; starts.len()];
     let result = settle(&example.given(), set, pairs.len() as u64 / 2, &pairs, &mut settled);
     tally.same("settled", result, Ok(()));
@@ -700,11 +708,18 @@ fn test_following_refusals(tally: &mut Tally) {
     tally.same("a goal", told(&[0, 4, 4, 6], 2, 0), (refused(14, 2), true));
 }
 
-/// A drawn plan, whose goals are some of the facts that it leads to.
-fn check_drawn_plan(tally: &mut Tally, dice: &mut Dice, what: &str, example: &Example) {
+/// A drawn plan, and its table with goals that are some of the facts that it leads to.
+fn drawn_plan(dice: &mut Dice, example: &Example) -> (Example, Vec<u16>) {
     let table = check_bounded_table(&example.given()).expect("random tables pass the checks");
     let starts = dice.plan(&table);
-    let problem = Problem { goals: facts_at(&table, &starts, table.bound as u32) & dice.next(), ..table };
+    let goals = facts_at(&table, &starts, table.bound as u32) & dice.next();
+    (Example { goals, ..example.clone() }, starts)
+}
+
+/// A drawn plan, followed through every log.
+fn check_drawn_plan(tally: &mut Tally, dice: &mut Dice, what: &str, example: &Example) {
+    let (example, starts) = drawn_plan(dice, example);
+    let problem = check_bounded_table(&example.given()).expect("random tables pass the checks");
     tally.same(what, check_plan(&problem, &starts), Ok(()));
     let worked = Worked::new(problem, &starts);
     tally.check(&format!("{what}: the binding pairs"), worked.pairs == pairs_of(&problem, &starts));
@@ -1218,6 +1233,207 @@ fn test_reasons_by_quarter_hours(tally: &mut Tally) {
     }
 }
 
+fn test_how_late(tally: &mut Tally) {
+    test_lateness_of_p3(tally);
+    test_lateness_of_chains(tally);
+    test_lateness_of_nothing(tally);
+    test_lateness_refusals(tally);
+    test_lateness_by_sequences(tally);
+    test_lateness_of_many_jobs(tally);
+}
+
+fn late(example: &Example, starts: &[u16], most: u16) -> Result<u64, Refusal> {
+    how_late(&example.given(), starts, most)
+}
+
+/// When the last job of a plan is finished that starts so.
+fn last_end(example: &Example, starts: &[u16]) -> u64 {
+    jobs_in(starts).map(|job| finish(&example.jobs[job], starts[job]) as u64).max().unwrap_or(0)
+}
+
+/// The numbers of change request Twelve. By rule 2 and with warm released at 6 the longest chain is the same, unpack,
+/// wash and drench, and the plans are those of the least bounds, as early as can be.
+fn test_lateness_of_p3(tally: &mut Tally) {
+    let all = jobs_u(&[2, 3, 4], 12);
+    for (most, sum) in [(0, 12), (1, 15), (96, 300)] {
+        tally.same("P3, how late", late(&all, &[0, 7, 4, 4], most), Ok(sum));
+    }
+    let released = all.released(&[0, 0, 6, 0]);
+    for example in [all.clone(), all.under_rule_2(), released.clone(), released.under_rule_2()] {
+        let example = Example { bound: 2_880, ..example };
+        let (least, starts) = least_of(&example).expect("P3 has a plan");
+        for most in 0..=96 {
+            let sum = least as u64 + 3 * most as u64;
+            tally.same("P3 at its least bound", late(&example, &starts, most), Ok(sum));
+        }
+    }
+}
+
+/// Jobs one behind the other, each bound to the one before alone: the run in which each goes over as far as it may is
+/// finished just at the sum. How much later the plan itself starts its jobs makes no difference.
+fn test_lateness_of_chains(tally: &mut Tally) {
+    for (length, deleting) in (1..=24).flat_map(|length| [(length, false), (length, true)]) {
+        let plain = chain(length, deleting).released(&[5]);
+        for (example, gap) in [(plain.under_rule_2(), 1), (plain, 0)] {
+            let mut end = 5 - gap;
+            let place = |job: &Job| {
+                end += gap + job.duration;
+                end - job.duration
+            };
+            let starts: Vec<u16> = example.jobs.iter().map(place).collect();
+            let later: Vec<u16> = starts.iter().zip(0..).map(|(&start, place)| start + 3 * place).collect();
+            for most in [0, 1, 50, 96] {
+                let sum = end as u64 + length * most as u64;
+                tally.same("a chain, how late", late(&example, &starts, most), Ok(sum));
+                tally.same("a chain with slack", late(&example, &later, most), Ok(sum));
+                let given = example.given();
+                let worked = overrunning(&given, &later, most).expect("the plan is valid");
+                let run = last_finish(&worked, &vec![most; starts.len()]);
+                tally.same("each job over as far as it may", run as u64, sum);
+            }
+        }
+    }
+}
+
+/// The empty plan is finished at 0, whatever might run over.
+fn test_lateness_of_nothing(tally: &mut Tally) {
+    let none = Example { jobs: vec![], atoms: 2, opening: 1, goals: 0, bound: 9 };
+    for most in 0..=96 {
+        tally.same("all jobs out", late(&jobs_u(&[0], 9).released(&[7; 4]), &[OUT; 4], most), Ok(0));
+        tally.same("no jobs", late(&none.under_rule_2(), &[], most), Ok(0));
+    }
+    tally.same("no jobs, 97", late(&none, &[], 97), refused(34, 0));
+}
+
+/// The plan is looked at before the overrun.
+fn test_lateness_refusals(tally: &mut Tally) {
+    let good = jobs_u(&[2, 3, 4], 12);
+    let plan = [0, 7, 4, 4];
+    let mut spoilt: Vec<(u64, Example, [u16; 4])> = vec![(9, Example { bound: 2_881, ..good.clone() }, plan)];
+    spoilt.push((4, Example { atoms: 65, ..good.clone() }, plan));
+    spoilt.push((7, Example { opening: 1 << 5, ..good.clone() }, plan));
+    spoilt.push((20, good.released(&[0, 2_881]), plan));
+    spoilt.push((11, Example { bound: 11, ..good.clone() }, plan));
+    spoilt.push((21, good.released(&[0, 8]), plan));
+    spoilt.push((12, good.clone(), [0, 6, 4, 4]));
+    spoilt.push((12, good.under_rule_2(), plan));
+    spoilt.push((13, good.clone(), [0, 7, 3, 4]));
+    spoilt.push((14, good.clone(), [0, OUT, 4, 4]));
+    let warm = good.jobs[2];
+    let both_ways = Job { deletions: warm.additions, ..warm };
+    for (number, job) in [(6, Job { duration: 961, ..both_ways }), (8, both_ways)] {
+        let jobs = [&good.jobs[..2], &[job], &good.jobs[3..]].concat();
+        spoilt.push((number, Example { jobs, ..good.clone() }, plan));
+    }
+    for most in [0, 1, 96, 97, 255, 256, 65_535] {
+        for (number, example, starts) in &spoilt {
+            let found = late(example, starts, most).map(|_| ());
+            tally.same("refused as an offered plan", found, offer(example, starts));
+            tally.same("its number", found.map_err(|refusal| refusal.number), Err(*number));
+        }
+        tally.same("short starts", late(&good, &plan[..3], most), refused(3, 0));
+        let many = Example { jobs: vec![good.jobs[1]; 25], ..good.clone() };
+        tally.same("25 jobs", late(&many, &[OUT; 25], most), refused(5, 0));
+    }
+    for most in [97, 98, 128, 255, 256, 352, 65_535] {
+        tally.same("over 96", late(&good, &plan, most), refused(34, 0));
+    }
+}
+
+/// When all is finished at the least starts of these jobs that keep these pairs.
+fn settled_end(example: &Example, set: u64, pairs: &[u8]) -> Result<u64, Refusal> {
+    let mut starts = vec![0; example.jobs.len()];
+    let result = settle(&example.given(), set, pairs.len() as u64 / 2, pairs, &mut starts);
+    result.map(|_| last_end(example, &starts))
+}
+
+/// Drawn plans of few jobs, with longest chains of none to four jobs and more.
+fn test_lateness_by_sequences(tally: &mut Tally) {
+    let mut dice = Dice(0x12e1_a7e5_0f5e_9e0c);
+    let mut met = [0; 5];
+    for number in 0..500 {
+        let (jobs, bound) = if number % 4 == 0 { (5, 9) } else { (4, 12) };
+        let table = Example { bound, ..dice.table_with_goals(jobs, 6, 2, 0, 2 + number % 3) };
+        for (way, example) in dice.in_every_way(&table, 5) {
+            let (example, starts) = drawn_plan(&mut dice, &example);
+            let what = format!("how late by sequences{way}");
+            met[check_by_longest(tally, &mut dice, &what, &example, &starts).min(4)] += 1;
+        }
+    }
+    tally.check(&format!("longest chains of 0 to 4 jobs: {met:?}"), met.iter().all(|&count| count > 20));
+}
+
+/// The settled finish is found by start vectors and by settling, the longest chain among all sequences of jobs. Gives
+/// how many jobs that one has.
+fn check_by_longest(
+    tally: &mut Tally,
+    dice: &mut Dice,
+    what: &str,
+    example: &Example,
+    starts: &[u16],
+) -> usize {
+    let given = example.given();
+    let worked = overrunning(&given, starts, 0).expect("the plan is valid");
+    let (set, pairs) = settling_of(&worked.problem, starts);
+    let settled = brute::settled(&worked.problem, set, &pairs).expect("the plan keeps its pairs");
+    let (end, longest) = (last_end(example, &settled), brute::longest_sequence(&worked));
+    tally.same(what, settled_end(example, set, &pairs), Ok(end));
+    for most in [0, 1, 2, dice.below(97) as u16, 96] {
+        let sum = end + most as u64 * longest as u64;
+        tally.same(what, late(example, starts, most), Ok(sum));
+        check_runs(tally, dice, what, &worked, most, sum);
+    }
+    longest
+}
+
+/// Runs with overruns of up to `most`, all of them where they are few, looked at quarter hour by quarter hour: each is
+/// finished by the sum, and where nothing may run over just then.
+fn check_runs(tally: &mut Tally, dice: &mut Dice, what: &str, worked: &Worked, most: u16, sum: u64) {
+    let jobs = worked.starts.len();
+    let runs = match most {
+        0..=2 if jobs < 5 => brute::every_overrun(jobs, most),
+        _ => [vec![0; jobs], vec![most; jobs], dice.overruns(jobs, most), dice.overruns(jobs, most)].to_vec(),
+    };
+    for overruns in runs {
+        let ends = finishes(worked, &overruns);
+        tally.check(&format!("{what}: a run with {overruns:?}"), brute::is_run(worked, &overruns, &ends));
+        let last = jobs_in(worked.starts).map(|job| ends[job]).max().unwrap_or(0);
+        tally.same(&format!("{what}: its end"), last_finish(worked, &overruns), last);
+        let in_time = if most == 0 { last as u64 == sum } else { last as u64 <= sum };
+        tally.check(&format!("{what}: finished at {last} with {overruns:?}, {sum} told"), in_time);
+    }
+}
+
+/// Drawn plans of up to 24 jobs.
+fn test_lateness_of_many_jobs(tally: &mut Tally) {
+    let mut dice = Dice(0x0240_1a7e_c4a1_2511);
+    for number in 0..150 {
+        let table = Example { bound: 2_880, ..dice.table(24, 30, 1 + number % 40, 0) };
+        let opening = table.opening | dice.facts(40, table.atoms);
+        for (way, example) in dice.in_every_way(&Example { opening, ..table }, 60) {
+            let (example, starts) = drawn_plan(&mut dice, &example);
+            check_by_units(tally, &mut dice, &format!("how late of many jobs{way}"), &example, &starts);
+        }
+    }
+}
+
+/// The longest chain has as many jobs as settling gives quarter hours if each job takes one, no gap is kept and none
+/// has a release.
+fn check_by_units(tally: &mut Tally, dice: &mut Dice, what: &str, example: &Example, starts: &[u16]) {
+    let given = example.given();
+    let worked = overrunning(&given, starts, 0).expect("the plan is valid");
+    let (set, pairs) = settling_of(&worked.problem, starts);
+    let jobs = example.jobs.iter().map(|job| Job { duration: 1, release: 0, ..*job }).collect();
+    let units = Example { jobs, atoms: example.atoms % 128, ..example.clone() };
+    let ends = [settled_end(example, set, &pairs), settled_end(&units, set, &pairs)];
+    let [end, longest] = ends.map(|end| end.expect("the plan keeps its pairs"));
+    for most in [0, 1 + dice.below(96) as u16] {
+        let sum = end + most as u64 * longest;
+        tally.same(what, late(example, starts, most), Ok(sum));
+        check_runs(tally, dice, what, &worked, most, sum);
+    }
+}
+
 /// What every call on an offered plan, its estimates, its settling and its reasons say.
 fn all_answers(example: &Example, starts: &[u16], pairs: &[u8]) -> impl PartialEq + std::fmt::Debug {
     let given = example.given();
@@ -1241,6 +1457,7 @@ fn all_answers(example: &Example, starts: &[u16], pairs: &[u8]) -> impl PartialE
 /// longer. The plans are the first ones, some with a job moved, and any at all.
 fn test_gap_as_length(tally: &mut Tally) {
     let mut dice = Dice(0x9a95_1e57_0f11_e5a1);
+    let mut overruns = Dice(0x0e22_0b07_1a7e_9a95);
     for number in 0..6_000 {
         let example = dice.table_with_goals(6, 6, 4, 24, 1 + number % 4);
         let example = dice.with_releases(&example, 9).under_rule_2();
@@ -1255,6 +1472,11 @@ fn test_gap_as_length(tally: &mut Tally) {
         let pairs: Vec<u8> = (0..2 * dice.below(jobs + 1)).map(|_| dice.below(jobs.max(1)) as u8).collect();
         let found = all_answers(&example, &starts, &pairs);
         tally.same("longer jobs instead of gaps", found, all_answers(&longer, &starts, &pairs));
+        // Behind the job that is finished last there is no gap.
+        let behind = jobs_in(&starts).count().min(1) as u64;
+        let most = overruns.below(98) as u16;
+        let found = late(&example, &starts, most).map(|sum| sum + behind);
+        tally.same("longer jobs, how late", found, late(&longer, &starts, most));
     }
 }
 
@@ -1690,6 +1912,11 @@ fn test_calls(tally: &mut Tally) {
         (reasoning[2], reasoning[4], reasoning[5]) = (6, goals, bound);
         stream.extend(call_bytes(reasoning, &jobs, &[]));
     }
+    for (most, bound) in [(0, 12), (1, 12), (96, 12), (97, 12), (65_535, 12), (97, 11)] {
+        let mut asking = head(16, 0, 0, 8, 0, 0);
+        (asking[5], asking[12]) = (bound, most);
+        stream.extend(call_bytes(asking, &jobs, &starts));
+    }
     let mut output = Vec::new();
     let whole = calls::run(&mut std::io::BufReader::new(&stream[..]), &mut output).is_ok();
     let expected = [
@@ -1724,6 +1951,12 @@ fn test_calls(tally: &mut Tally) {
         "0 0 0 0 3 64",
         "0 0 0 0 1 5",
         "9 0 0 0 0 64",
+        "0 0 0 12",
+        "0 0 0 15",
+        "0 0 0 300",
+        "34 0 0 0",
+        "34 0 0 0",
+        "11 0 2 0",
     ];
     tally.same(
         "stream of calls",
@@ -1733,4 +1966,21 @@ fn test_calls(tally: &mut Tally) {
     tally.check("whole stream", whole);
     let cut = calls::run(&mut std::io::BufReader::new(&stream[..200]), &mut Vec::new());
     tally.check("a stream that ends within a call", cut.is_err());
+    test_runs(tally, &stream, expected.len());
+}
+
+/// Of these calls the first three of the last six ask how late P3 can get and are not refused: what runs there is within
+/// what is told.
+fn test_runs(tally: &mut Tally, stream: &[u8], calls: usize) {
+    let mut output = Vec::new();
+    let whole = calls::run_over(&mut std::io::BufReader::new(stream), &mut output).is_ok();
+    let output = String::from_utf8_lossy(&output);
+    let lines: Vec<&str> = output.lines().collect();
+    tally.check("whole stream of runs", whole && lines.len() == calls);
+    let asked = calls - 6..calls - 3;
+    let told_none = |at: usize| asked.contains(&at) || lines[at] == "none";
+    tally.check("no runs, or refused", (0..calls).all(told_none));
+    let ends: Vec<u64> = lines[asked].iter().filter_map(|line| line.parse().ok()).collect();
+    let within = ends.iter().zip([12..=12, 12 + 1..=15, 12 + 96..=300]).all(|(end, told)| told.contains(end));
+    tally.check(&format!("runs within what is told: {ends:?}"), ends.len() == 3 && within);
 }

@@ -15,7 +15,7 @@ use Rattle.rules.specs.Plans.{Plan}
 use Rattle.rules.specs.Pairs.{binds, joined, pairIf, pairBytes}
 use Rattle.tables.proofs.Lent.{filled-at}
 use Rattle.tables.specs.Tables.{written}
-use Rattle.demands.specs.Kept.{InBytes, BindsIn}
+use Rattle.bindings.specs.Bindings.{InBytes, BindsIn}
 
 -- a, then b, at an even place of the list
 record At (ys : List ℕ) (a b : ℕ) : Type 0 where

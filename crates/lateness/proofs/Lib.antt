@@ -1,0 +1,4 @@
+pub mod Laws
+pub mod Calls
+pub mod Only
+pub mod Shown
