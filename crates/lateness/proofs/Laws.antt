@@ -6,15 +6,14 @@ use mathlib.Core.Bool.{Bool, true, false, cond, _&&_}
 use mathlib.Core.List.{List, []}
 use Prim.Native.Nat.{ℕ, _+_, _*_, _/_, _≤_, _<_, max}
 use native.Mathlib.Omega.{arith}
-use native.Mathlib.Nat.{mul-le-mul}
 use lib.Dec.{T, eqb, ltb, ltb→lt, eqb→eq}
-use lib.ListN.{length, getD, replicate, getD-replicate}
+use lib.ListN.{length, getD, getD-replicate}
 use Rattle.facts.specs.Facts.{has}
 use Rattle.facts.specs.Least.{any}
 use Rattle.facts.proofs.Bools.{and-l, and-r, and-of, eqb-of}
 use Rattle.facts.proofs.Least.{any-of, any-at}
 use Rattle.rules.specs.Table.{Problem}
-use Rattle.rules.specs.Plans.{Plan, starts, inPlan}
+use Rattle.rules.specs.Plans.{starts, inPlan}
 use Rattle.rules.specs.Pairs.{binds, pairBytes}
 use Rattle.rules.specs.Settling.{Asked, Obeys, Settled}
 use Rattle.rules.specs.Lateness.{IsGreatest, SettledFinish, bindingPairs, LatestFinish}
