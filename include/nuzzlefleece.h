@@ -321,9 +321,9 @@ nuzzlefleece_screen nuzzlefleece_follow(const nuzzlefleece_action *records, size
  * Whatever the overruns are, each from 0 to overruns.most, job by job, all is finished by the value. It is the settled finish plus
  * overruns.most times the greatest number of jobs in one chain of binding pairs. The settled finish is the last finish of all jobs of the
  * plan, also those in no pair, at the starts that nuzzlefleece_settle gives them by the binding pairs; a lone job is a chain of one. With
- * overruns.most 0 all is finished just at the value; for the empty plan it is 0, whatever overruns.most is. The plan's own starts play no part
- * in that, beyond the pairs, and the value may be above the bound. No lent memory is filled. Refusals 3 to 9 and 20, then 11 to 14 and 21 as in
- * nuzzlefleece_check_plan, then 34.
+ * overruns.most 0 all is finished just at the value; for the empty plan it is 0, whatever overruns.most is. Two plans of one table with the
+ * same jobs and the same binding pairs have the same value, whatever their starts; it may be above the bound. No lent memory is filled.
+ * Refusals 3 to 9 and 20, then 11 to 14 and 21 as in nuzzlefleece_check_plan, then 34.
  */
 nuzzlefleece_answer nuzzlefleece_how_late(const nuzzlefleece_action *records, size_t lent, nuzzlefleece_overruns overruns,
     const uint16_t *starts, size_t starts_lent);

@@ -16,7 +16,7 @@ use Rattle.rules.specs.Plans.{Plan, starts, inPlan, In, finish, Valid}
 use Rattle.rules.specs.Pairs.{pairBytes}
 use Rattle.rules.specs.Lateness.{IsGreatest, bindingPairs, BindingChain, LatestFinish, overrunCheck}
 use Rattle.rules.specs.Runs.{Run, RunsBy}
-use Rattle.rules.proofs.Late.{Valued, greatest-is, finish-only, finish-of, latest-fits, runs-by, overrun, run-valid}
+use Rattle.rules.proofs.Late.{Valued, greatest-is, finish-only, finish-of, latest-fits, no-later, runs-by, overrun, run-valid, BoundAlike, same-sum}
 use Rattle.rules.proofs.Settle.{settled-alike}
 use Rattle.tables.specs.declared.Loaded.{Loaded}
 use Rattle.tables.specs.declared.Answer.{Answer}
@@ -60,6 +60,10 @@ module _ (l : Loaded) (o : Overruns) (s : List ℕ) (r : Answer) (f : HowLate l 
   pub value-fits : r .value ≤ o .ask .bound + o .most * o .ask .jobs
   value-fits = latest-fits P (k .clear .order) (o .ask .bound) (starts s) (o .most) (r .value) is-latest
 
+  -- with k = 0 it is no later than the plan's own finish
+  pub value-no-later : o .most ≡ 0 → (m : ℕ) → ((j : ℕ) → In P (starts s) j → finish P (starts s) j ≤ m) → r .value ≤ m
+  value-no-later e m own = no-later P (k .clear .order) (o .ask .bound) (starts s) (k .valid) (r .value) m (subst (λ (n : ℕ). LatestFinish P (o .ask .bound) (starts s) n (r .value)) e is-latest) own
+
   small : r .value < 65535
   small =
       let m : o .most ≤ 96 = within-96 (o .most) (both (overrunCheck (o .most) accepted) (offered-checks false l (o .ask) s) fine .1) in
@@ -94,3 +98,9 @@ module _ (l : Loaded) (o : Overruns) (s : List ℕ) (r : Answer) (f : HowLate l 
           is-latest .longest,
           is-latest .sum,
         )
+
+-- two plans with the same jobs in and the same binding pairs get the same value, whatever their starts
+pub same-value : (l : Loaded) (o : Overruns) (s s′ : List ℕ) (r r′ : Answer) (f : HowLate l o s r) (g : HowLate l o s′ r′) → r .number ≡ 0 → r′ .number ≡ 0
+    → BoundAlike (problem l (o .ask)) (starts s) (starts s′) → r .value ≡ r′ .value
+same-value l o s s′ r r′ f g z z′ h =
+    same-sum (problem l (o .ask)) (k l o s r f z .clear .order) (o .ask .bound) (o .ask .bound) (starts s) (starts s′) h (o .most) (r .value) (r′ .value) (is-latest l o s r f z) (is-latest l o s′ r′ g z′)

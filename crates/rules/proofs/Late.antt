@@ -1,7 +1,7 @@
 -- Request Twelve: for each plan and overruns there is one run, and with overruns up to k all is finished by the settled finish plus k times the longest chain.
 -- Assumes nothing.
 use mathlib.Core.Path.{_≡_, refl, sym, _∙_, ap₂, subst}
-use mathlib.Core.Logic.{_⊎_, inl, inr, ⊎-elim}
+use mathlib.Core.Logic.{_⊎_, inl, inr, _↔_, ⊎-elim}
 use mathlib.Core.Bool.{Bool, cond}
 use Prim.Native.Nat.{ℕ, zero, suc, _+_, _*_, _≤_, _<_, max}
 use native.Mathlib.Omega.{arith}
@@ -38,6 +38,10 @@ greatest-as n there back g = record { most = λ m x. g .most m (back m x); met =
 -- one of the numbers below n that pass the test has the value m
 abbrev pub Valued : (test : ℕ → Bool) (f : ℕ → ℕ) (n m : ℕ) → Type 0
 Valued test f n m = (j : ℕ) × (j < n) × T (test j) × (f j ≡ m)
+
+-- of values that are the same
+greatest-values : (test : ℕ → Bool) (f g : ℕ → ℕ) (n t : ℕ) → ((j : ℕ) → j < n → T (test j) → f j ≡ g j) → IsGreatest (Valued test f n) t → IsGreatest (Valued test g n) t
+greatest-values test f g n t h = greatest-as t (λ m (j, l, x, e). (j, l, x, sym (h j l x) ∙ e)) (λ m (j, l, x, e). (j, l, x, h j l x ∙ e))
 
 module _ (test : ℕ → Bool) (f : ℕ → ℕ) where
   pub greatest-none : IsGreatest (Valued test f 0) 0
@@ -89,16 +93,7 @@ module _ (test : ℕ → Bool) (f : ℕ → ℕ) where
 
 module _ (P : Problem) (q : Asked) where
   pub finish-only : (t u : ℕ) → SettledFinish P q t → SettledFinish P q u → t ≡ u
-  finish-only t u f g = greatest-only _ t u (f .last) (greatest-as u (λ m x. there m x) (λ m x. back m x) (g .last))
-    where
-      is : (j : ℕ) → j < P .count → f .z j ≡ g .z j
-      is = settled-only P q (f .z) (g .z) (f .settled) (g .settled)
-
-      there : (m : ℕ) → Valued (q .set) (finish P (g .z)) (P .count) m → Valued (q .set) (finish P (f .z)) (P .count) m
-      there m (j, l, x, e) = (j, l, x, omega (arith, is j l))
-
-      back : (m : ℕ) → Valued (q .set) (finish P (f .z)) (P .count) m → Valued (q .set) (finish P (g .z)) (P .count) m
-      back m (j, l, x, e) = (j, l, x, omega (arith, is j l))
+  finish-only t u f g = greatest-only _ t u (f .last) (greatest-values (q .set) _ _ (P .count) u (λ j l x. omega (arith, settled-only P q (f .z) (g .z) (f .settled) (g .settled) j l)) (g .last))
 
   pub finish-of : (z : Plan) → Settled P q z → SettledFinish P q (greatestOf (q .set) (finish P z) (P .count))
   finish-of z f = record { z = z; settled = f; last = greatest-is (q .set) (finish P z) (P .count) }
@@ -331,29 +326,27 @@ module _ (P : Problem) (ok : InOrder P) (bound : ℕ) (s : Plan) where
         let e : t ≡ 0 + k * 0 = f .sum ∙ ap₂ (λ (x y : ℕ). x + k * y) a b in
         omega arith
 
-  -- with no overrun the run is the settled starts, and the last job finishes just then
+  -- the settled starts are the run with no overrun
+  settled-run : (k t : ℕ) (f : LatestFinish P bound s k t) → Run P s (λ j. 0) (f .settled .z)
+  settled-run k t f = settled-runs P ok s (λ j. 0) bound (f .settled .z) (settled-alike P (overrun P (λ j. 0)) (bindingPairs P bound s) (bindingPairs P bound s) (record {
+    count = refl;
+    duration = λ j l. omega arith;
+    gap = refl;
+    set = λ j l. (λ x. x, λ x. x);
+    pair = λ a b l m. (λ x. x, λ x. x);
+    from = λ j l. refl;
+    bound = refl;
+  }) (f .settled .z) (f .settled .settled))
+
+  -- so with none the last job finishes just then
   pub not-late : (t : ℕ) → LatestFinish P bound s 0 t → (r : Plan) → Run P s (λ j. 0) r → IsGreatest (λ m. (j : ℕ) × In P s j × (finish P r j ≡ m)) t
-  not-late t f r run = subst (IsGreatest _) (omega (arith, f .sum)) (greatest-as (f .last) there back (f .settled .last))
-    where
-      as-settled : Run P s (λ j. 0) (f .settled .z)
-      as-settled = settled-runs P ok s (λ j. 0) bound (f .settled .z) (settled-alike P (overrun P (λ j. 0)) (bindingPairs P bound s) (bindingPairs P bound s) (record {
-        count = refl;
-        duration = λ j l. omega arith;
-        gap = refl;
-        set = λ j l. (λ x. x, λ x. x);
-        pair = λ a b l m. (λ x. x, λ x. x);
-        from = λ j l. refl;
-        bound = refl;
-      }) (f .settled .z) (f .settled .settled))
+  not-late t f r run = subst (IsGreatest _) (omega (arith, f .sum)) (greatest-as (f .last)
+      (λ m (j, l, x, e). (j, record { below = l; chosen = x }, e)) (λ m (j, i, e). (j, i .below, i .chosen, e))
+      (greatest-values (inPlan s) (finish P (f .settled .z)) (finish P r) (P .count) (f .last) (λ j l x. omega (arith, run-only P ok s (λ j. 0) r (f .settled .z) run (settled-run 0 t f) j (record { below = l; chosen = x }))) (f .settled .last)))
 
-      is : (j : ℕ) → In P s j → r j ≡ f .settled .z j
-      is = run-only P ok s (λ j. 0) r (f .settled .z) run as-settled
-
-      there : (m : ℕ) → Valued (inPlan s) (finish P (f .settled .z)) (P .count) m → (j : ℕ) × In P s j × (finish P r j ≡ m)
-      there m (j, l, x, e) = let i : In P s j = record { below = l; chosen = x } in (j, i, omega (arith, is j i))
-
-      back : (m : ℕ) → (j : ℕ) × In P s j × (finish P r j ≡ m) → Valued (inPlan s) (finish P (f .settled .z)) (P .count) m
-      back m (j, i, e) = (j, i .below, i .chosen, omega (arith, is j i))
+  -- and the sum is no later than the plan's own finish
+  pub no-later : Valid P bound s → (t m : ℕ) → LatestFinish P bound s 0 t → ((j : ℕ) → In P s j → finish P s j ≤ m) → t ≤ m
+  no-later v t m f own = ⊎-elim (λ e. omega (arith, f .sum)) (λ (j, l, x, e). omega (arith, f .sum, f .settled .settled .least s (keeps-own v) j l x, own j (record { below = l; chosen = x }))) (f .settled .last .met)
 
   -- so all of it is shown of the sum
   pub runs-by : (k t : ℕ) → LatestFinish P bound s k t → RunsBy P s k t
@@ -386,3 +379,45 @@ module _ (P : Problem) (ok : InOrder P) (bound : ℕ) (s : Plan) where
 
       back : (j : ℕ) → In (overrun P o) y j → In P s j
       back j i = record { below = i .below; chosen = ⊎-elim (λ x. x) (λ n. absurd (eqb-not (y j) 65535 (i .chosen) (cond-no (inPlan s j) (r j) 65535 n))) (T? (inPlan s j)) }
+
+-- ── the same jobs and binding pairs ──
+
+-- s and z have the same jobs in, and the same pairs bind
+pub record BoundAlike (P : Problem) (s z : Plan) : Type 0 where
+  pub jobs : (j : ℕ) → In P s j ↔ In P z j
+  pub pairs : (a j : ℕ) → In P s a → In P s j → T (binds P s a j) ↔ T (binds P z a j)
+
+bound-back : (P : Problem) (s z : Plan) → BoundAlike P s z → BoundAlike P z s
+bound-back P s z h = record {
+  jobs = λ j. (h .jobs j .1, h .jobs j .0);
+  pairs = λ a j i k. (let x = h .pairs a j (h .jobs a .1 i) (h .jobs j .1 k) in (x .1, x .0));
+}
+
+chain-alike : (P : Problem) (s z : Plan) → InOrder P → BoundAlike P s z → {n j : ℕ} → BindingChain P s n j → BindingChain P z n j
+chain-alike P s z ok h (lone i) = lone (h .jobs _ .0 i)
+chain-alike P s z ok h (longer {a = a} {j = j} c i x) = longer (chain-alike P s z ok h c) (h .jobs j .0 i) (h .pairs a j (chain-in P ok s c) i .0 x)
+
+due-alike : (P : Problem) (s z : Plan) → BoundAlike P s z → (o : ℕ → ℕ) (r : Plan) (j t : ℕ) → In P s j → DueAt P s o r j t → DueAt P z o r j t
+due-alike P s z h o r j t i d = record { released = d .released; behind = λ a k x. (let m = h .jobs a .1 k in d .behind a m (h .pairs a j m i .1 x)) }
+
+run-alike : (P : Problem) (s z : Plan) → BoundAlike P s z → (o : ℕ → ℕ) (r : Plan) → Run P s o r → Run P z o r
+run-alike P s z h o r f = record {
+  due = λ j i. (let k = h .jobs j .1 i in due-alike P s z h o r j (r j) k (f .due j k));
+  soon = λ j t i d. f .soon j t (h .jobs j .1 i) (due-alike P z s (bound-back P s z h) o r j t i d);
+}
+
+-- then they have the same sum, whatever their starts and their bounds
+pub same-sum : (P : Problem) (ok : InOrder P) (b c : ℕ) (s z : Plan) → BoundAlike P s z → (k t u : ℕ) → LatestFinish P b s k t → LatestFinish P c z k u → t ≡ u
+same-sum P ok b c s z h k t u f g = f .sum ∙ ap₂ (λ (x y : ℕ). x + k * y) last jobs ∙ sym (g .sum)
+  where
+    is : (j : ℕ) → In P z j → f .settled .z j ≡ g .settled .z j
+    is = run-only P ok z (λ j. 0) (f .settled .z) (g .settled .z) (run-alike P s z h (λ j. 0) (f .settled .z) (settled-run P ok b s k t f)) (settled-run P ok c z k u g)
+
+    last : f .last ≡ g .last
+    last = greatest-only (Valued (inPlan z) (finish P (g .settled .z)) (P .count)) (f .last) (g .last) (greatest-as (f .last)
+        (λ m (j, l, x, e). (let i = h .jobs j .0 (record { below = l; chosen = x }) in (j, i .below, i .chosen, omega (arith, is j i))))
+        (λ m (j, l, x, e). (let i : In P z j = record { below = l; chosen = x } in let o = h .jobs j .1 i in (j, o .below, o .chosen, omega (arith, is j i))))
+        (f .settled .last)) (g .settled .last)
+
+    jobs : f .jobs ≡ g .jobs
+    jobs = greatest-only _ (f .jobs) (g .jobs) (greatest-as (f .jobs) (λ m (j, d). (j, chain-alike P s z ok h d)) (λ m (j, d). (j, chain-alike P z s ok (bound-back P s z h) d)) (f .longest)) (g .longest)
