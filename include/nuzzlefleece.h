@@ -22,9 +22,9 @@
 extern "C" {
 #endif
 
-/* The version that this header describes, 10,000 times the first number, 100 times the second, and the third: 1.8.0.
+/* The version that this header describes, 10,000 times the first number, 100 times the second, and the third: 1.9.0.
  * nuzzlefleece_version() returns that of the library linked; where the two differ, header and library are not of one build. */
-#define NUZZLEFLEECE_VERSION 10800
+#define NUZZLEFLEECE_VERSION 10900
 
 /* Sizes and limits. A fact is a number below the atom count; a word of facts has fact 0 in its lowest bit. */
 enum {
@@ -37,6 +37,8 @@ enum {
     NUZZLEFLEECE_MOST_BOUND = 2880,     /* quarter hours */
     NUZZLEFLEECE_MOST_PAIRS = 600,      /* asked of settling */
     NUZZLEFLEECE_MOST_OVERRUN = 96,     /* quarter hours by which each job may run over; the least is 0 */
+    NUZZLEFLEECE_MOST_BATCHES = 4,
+    NUZZLEFLEECE_HOUSE_GROUPS = 12,     /* numbered from 0 */
     NUZZLEFLEECE_MOST_MARKS = 16,
     NUZZLEFLEECE_MOST_LEVEL = 1000,     /* tenths; the least is -1000 */
     NUZZLEFLEECE_MOST_FILE = 65536,     /* bytes of a job file */
@@ -72,7 +74,8 @@ enum {
     NUZZLEFLEECE_WHY_NEITHER = 3        /* no goal costs more than the bound */
 };
 
-/* Refusals, checked in the order of their numbers, but 20 between 6 and 7, 21 between 11 and 12, and in tidying 3 between 1 and 2.
+/* Refusals, checked in the order of their numbers, but 20 between 6 and 7, 21 between 11 and 12, in tidying 3 between 1 and 2, and of
+ * batches 28, 29 and 30 before 3.
  * All that take or write a job table check 3 to 8 and 20, and 9 where there is a bound.
  * The place, and the second number, is 0 where the comment names none. A job is named by its number in the table, a fact by its own, a
  * pair by its number in the list asked. */
@@ -102,6 +105,9 @@ enum {
     NUZZLEFLEECE_RELEASE_WRONG = 20,     /* over 2,880; checked after 6 and before 7; place: lowest job */
     NUZZLEFLEECE_BEFORE_RELEASE = 21,    /* offered plan: a job starts before its release; checked after 11 and before 12; place: lowest job */
     NUZZLEFLEECE_NOT_IN_SET = 27,        /* why a job starts when it does: it is not in the set; place: the job */
+    NUZZLEFLEECE_GROUP_UNKNOWN = 28,     /* batches: no such house group; place: lowest batch, 65,535 for any from there on */
+    NUZZLEFLEECE_TOO_MANY_BATCHES = 29,  /* more than 4; place: 4 */
+    NUZZLEFLEECE_BATCHES_TOO_LARGE = 30, /* batches: over 24 jobs */
     NUZZLEFLEECE_OVERRUN_WRONG = 34      /* how late a plan can get: each job may run over by more than 96; checked after 14 */
 };
 
@@ -132,7 +138,10 @@ static inline const char *nuzzlefleece_words(unsigned number) {
         "offered plan: a job starts before its release",
         NULL, NULL, NULL, NULL, NULL, /* 22 to 26: no such refusals */
         "why a job starts: it is not in the set",
-        NULL, NULL, NULL, NULL, NULL, NULL, /* 28 to 33: no such refusals */
+        "batches: no such house group",
+        "batches: more than 4",
+        "batches: over 24 jobs",
+        NULL, NULL, NULL, /* 31 to 33: no such refusals */
         "how late: more than 96 quarter hours over",
     };
     return number < sizeof words / sizeof words[0] && words[number] != NULL ? words[number] : "no such refusal";
@@ -223,6 +232,15 @@ typedef struct nuzzlefleece_read_answer {
     nuzzlefleece_ask ask; /* jobs, atoms, opening facts, goals and bound of the file; all 0 on refusal */
 } nuzzlefleece_read_answer;
 
+/* What expanding batches says beside the records; the four numbers behind the answer are 0 on refusal. */
+typedef struct nuzzlefleece_batch_answer {
+    nuzzlefleece_answer answer;
+    size_t jobs;      /* how many of the records are filled */
+    uint8_t atoms;    /* the bay and one fact a stage */
+    uint64_t opening; /* the bay, which is fact 0, alone */
+    uint64_t goals;   /* the done facts of the last stages */
+} nuzzlefleece_batch_answer;
+
 /* A bench reading as the probe sends it: degrees and per cent. */
 typedef struct nuzzlefleece_reading {
     double temperature;
@@ -244,7 +262,10 @@ typedef char nuzzlefleece_layouts[sizeof(nuzzlefleece_action) == 32 && offsetof(
     && sizeof(nuzzlefleece_watch) == 80 && offsetof(nuzzlefleece_watch, job) == 73 && sizeof(nuzzlefleece_screen) == 40
     && sizeof(nuzzlefleece_question) == 64 && offsetof(nuzzlefleece_question, job) == 56 && sizeof(nuzzlefleece_overruns) == 64
     && offsetof(nuzzlefleece_overruns, most) == 56 && sizeof(nuzzlefleece_reason) == 12
-    && offsetof(nuzzlefleece_reason, kind) == 8 && offsetof(nuzzlefleece_reason, fact) == 9 && sizeof(nuzzlefleece_read_answer) == 64 && sizeof(nuzzlefleece_opening) == 16 && offsetof(nuzzlefleece_opening, second) == 1
+    && offsetof(nuzzlefleece_reason, kind) == 8 && offsetof(nuzzlefleece_reason, fact) == 9 && sizeof(nuzzlefleece_read_answer) == 64
+    && sizeof(nuzzlefleece_batch_answer) == 40 && offsetof(nuzzlefleece_batch_answer, jobs) == 8
+    && offsetof(nuzzlefleece_batch_answer, atoms) == 16 && offsetof(nuzzlefleece_batch_answer, opening) == 24
+    && offsetof(nuzzlefleece_batch_answer, goals) == 32 && sizeof(nuzzlefleece_opening) == 16 && offsetof(nuzzlefleece_opening, second) == 1
     && offsetof(nuzzlefleece_opening, place) == 2 ? 1 : -1];
 
 /* The version of the library. */
@@ -363,6 +384,17 @@ nuzzlefleece_answer nuzzlefleece_why_start(const nuzzlefleece_action *records, s
  * Refusals 3 to 9 and 20.
  */
 nuzzlefleece_reason nuzzlefleece_why_no_plan(const nuzzlefleece_action *records, size_t lent, nuzzlefleece_ask ask);
+
+/*
+ * Expands batches, each given by its house group, into a job table: fills one record a job, batch by batch and stage by stage, each clearing job
+ * right behind its stage. Fact 0 is the wash bay; the done facts of the stages follow from 1 on, by batch, then stage. A stage needs the done
+ * fact of the stage before it in its batch, a first stage none, and adds its own; one that holds the bay needs fact 0 too and deletes it. A
+ * clearing job is one quarter hour long, needs that stage's done fact and adds fact 0. Every release is 0. No bound comes out: jobs, atoms,
+ * opening facts and goals go into a nuzzlefleece_ask, by either rule, and the caller sets its bound. Without batches there are no jobs and no
+ * goals, and the bay is the one fact. 24 records lent are always enough. Refusals 28, for which all batches are looked at, 29 and 30,
+ * then 3.
+ */
+nuzzlefleece_batch_answer nuzzlefleece_batches(const uint8_t *groups, size_t batches, nuzzlefleece_action *records, size_t lent);
 
 /*
  * Reads the last save of a job file: fills one record a job and gives the file's numbers, the atom count as it stands there, with the

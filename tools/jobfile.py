@@ -1,8 +1,9 @@
-"""Job files from readable text, and back; and files without their older saves.
+"""Job files from readable text, and back; files without their older saves; and the text of batches of the house groups.
 
     tools/jobfile make < TEXT > FILE
     tools/jobfile show < FILE > TEXT
     tools/jobfile tidy FILE
+    tools/jobfile batches 7 7 1 --bound 2880 > TEXT
 
 The text, a line a thing; what stands behind # is a comment, and blank lines mean nothing:
 
@@ -28,13 +29,20 @@ beside the old one under another name and takes its place when it is whole, with
 leaves the old one as it was, and an interruption at most a file beside it whose name begins with a dot; nothing else may
 write to the file meanwhile. What the planner would refuse is not tidied, and a file that is tidy is not written.
 
-Status 1 with a line on standard error where the text or the file is wrong, 2 where it cannot be read or the result written.
+`batches` expands batches, each given by its house group, with the proved program batch_file, and names what that gives:
+the batches a to d, stage 2 of batch a as job a2, its done fact a2-done and the clearing job behind it a2-clear. The
+bound, in quarter hours, is given once, before or behind the groups. Groups that are refused are told in the words of the
+refusal, and a bound that the planner will refuse gives a warning.
+
+Status 1 with a line on standard error where the text or the file is wrong or the batches are refused, 2 where it cannot be
+read or the result written, where the words of the call are wrong, and where batch_file is not built.
 """
 import os
 import re
 import signal
 import stat
 import struct
+import subprocess
 import sys
 import tempfile
 
@@ -43,7 +51,12 @@ RECORD, TRAILER, FIELDS = 32, 24, '<QQQHH'
 MOST_FACTS, MOST_JOBS, MOST_SHORT, LONGEST_FILE, LONGEST_TEXT = 64, 255, 65535, 65536, 1 << 24
 # Added to the atom count of a file under rule 2.
 RULE_2 = 128
-REFUSALS = os.path.join(os.path.dirname(os.path.realpath(__file__)), 'refusals')
+HERE = os.path.dirname(os.path.realpath(__file__))
+REFUSALS = os.path.join(HERE, 'refusals')
+# The program that expands batches: of a byte a group it makes a job file without a bound, or the number of a refusal and its place in two bytes.
+BATCH_FILE, REFUSAL = (os.path.join(HERE, 'run-program'), 'batch_file'), '<BH'
+# How many facts stand in a line of the text of batches.
+FACTS_IN_LINE = 12
 
 
 class Wrong(Exception):
@@ -165,11 +178,22 @@ def refusal_of(file):
     return next(((number, places[0]) for number, places in checks if places), None)
 
 
-def warning_of(number, place):
+def refusal_text(number, place):
     """A refusal in words, those of the file that bench-plan has them from."""
     with open(REFUSALS, encoding='utf-8') as lines:
         words, where = dict(line.rstrip('\n').split('|', 1) for line in lines)[str(number)].split('|')
-    return f'the planner will refuse this, refusal {number}: {words}' + (f'; place {place}: {where}' if where != '0' else '')
+    return f'refusal {number}: {words}' + (f'; place {place}: {where}' if where != '0' else '')
+
+
+def warning_of(number, place):
+    return f'the planner will refuse this, {refusal_text(number, place)}'
+
+
+def warn(file):
+    """Says it where the planner will refuse a file."""
+    refusal = refusal_of(file)
+    if refusal:
+        say('warning: ' + warning_of(*refusal))
 
 
 def demand_name(name):
@@ -270,6 +294,53 @@ def text_of(file):
     return ''.join(line + '\n' for line in lines)
 
 
+def stages_of(goals, atoms):
+    """The stage of each done fact, from fact 1 on: a batch ends at its goal, and its letter goes by the goals below."""
+    stages, letter, before = {}, ord('a'), 0
+    for fact in range(1, atoms):
+        stages[fact] = f'{chr(letter)}{fact - before}'
+        if goals >> fact & 1:
+            letter, before = letter + 1, fact
+    return stages
+
+
+def batch_facts(word, stages):
+    """The done facts of a word, by their stages, and behind them the bay, which is fact 0."""
+    done = (f' {stage}-done' for fact, stage in stages.items() if word >> fact & 1)
+    return ''.join(done) + (' bay' if word & 1 else '')
+
+
+def batch_job_line(job, stages):
+    """A stage has the name of what it adds, a clearing job, which adds the bay, that of the stage that it needs."""
+    conditions, additions, deletions, duration, _ = job
+    clears = additions == 1
+    done = (conditions if clears else additions).bit_length() - 1
+    needs, adds, deletes = (batch_facts(word, stages) for word in (conditions, additions, deletions))
+    return f'job {stages[done]}{"-clear" if clears else ""} {duration}:{needs} ->{adds}' + (f' -{deletes}' if deletes else '')
+
+
+def batches_text(file):
+    """The text of a job file that batches gave, with names that say batch and stage."""
+    jobs, (opening, goals, bound, _, atoms), _ = take_apart(file)
+    stages = stages_of(goals, atoms)
+    names = ['bay', *(f'{stage}-done' for stage in stages.values())]
+    lines = ['facts ' + ' '.join(names[at:at + FACTS_IN_LINE]) for at in range(0, atoms, FACTS_IN_LINE)]
+    lines += ['open' + batch_facts(opening, stages), 'goals' + batch_facts(goals, stages), f'bound {bound}']
+    lines += [''] if jobs else []
+    lines += [batch_job_line(job, stages) for job in jobs]
+    return ''.join(line + '\n' for line in lines)
+
+
+def expanded(groups, bound):
+    """The job file of these batches with this bound, as batch_file makes it."""
+    done = subprocess.run(BATCH_FILE, input=bytes(groups), capture_output=True)
+    if done.returncode:
+        raise Unable(done.stderr.decode('utf-8', 'replace').rstrip('\n') or f'batch_file ended with status {done.returncode}')
+    if len(done.stdout) == struct.calcsize(REFUSAL):
+        raise Wrong(refusal_text(*struct.unpack(REFUSAL, done.stdout)))
+    return done.stdout[:-8] + struct.pack('<H', bound) + done.stdout[-6:]
+
+
 def taken(most):
     """Standard input up to one byte more than may be."""
     parts, left = [], most + 1
@@ -338,9 +409,7 @@ def make():
     if len(text) > LONGEST_TEXT:
         raise Wrong(f'the text has more than {LONGEST_TEXT} bytes')
     file = file_of(text.decode('utf-8-sig', 'replace'))
-    refusal = refusal_of(file)
-    if refusal:
-        say('warning: ' + warning_of(*refusal))
+    warn(file)
     give(file)
 
 
@@ -356,10 +425,24 @@ def tidy(name):
     give(f'{len(save)} bytes, {len(file)} before\n'.encode())
 
 
+def batches(words, at):
+    """The groups are all words but two: --bound, which stands at a place, and the bound behind it."""
+    try:
+        bound = number_in(words[at + 1], MOST_SHORT, 'the bound')
+        groups = [number_in(word, 255, 'a group') for word in words[:at] + words[at + 2:]]
+    except Wrong as wrong:
+        raise Unable(wrong) from None
+    file = expanded(groups, bound)
+    warn(file)
+    give(batches_text(file).encode())
+
+
 def action_of(words):
     """What the words ask for; None where they ask for nothing there is."""
     if len(words) == 2 and words[0] == 'tidy':
         return lambda: tidy(words[1])
+    if words[:1] == ['batches'] and words.count('--bound') == 1 and words[-1] != '--bound':
+        return lambda: batches(words[1:], words.index('--bound') - 1)
     return {('make',): make, ('show',): show, ('--help',): lambda: give(__doc__.encode())}.get(tuple(words))
 
 
@@ -367,7 +450,8 @@ def main(words):
     signal.signal(signal.SIGINT, signal.SIG_DFL)
     action = action_of(words)
     if action is None:
-        say('usage: jobfile make < TEXT > FILE, jobfile show < FILE > TEXT, or jobfile tidy FILE; jobfile --help says more')
+        say('usage: jobfile make < TEXT > FILE, jobfile show < FILE > TEXT, jobfile tidy FILE, or jobfile batches GROUP.. --bound BOUND > TEXT; '
+            'jobfile --help says more')
         return 2
     try:
         action()

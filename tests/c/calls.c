@@ -147,15 +147,28 @@ static void answer_in_bytes(void) {
     print_with(answer, bytes_out, head[10]);
 }
 
+/* The lent records after the call. */
+static void print_records(void) {
+    for (size_t i = 0; i < head[8]; i++) {
+        print_hex(&records[i], SAVED);
+    }
+}
+
 static void answer_reader(void) {
     nuzzlefleece_read_answer read = nuzzlefleece_read_file(table, head[9], records, head[8]);
     nuzzlefleece_ask q = read.ask;
     print_refusal(read.answer.number, read.answer.second, read.answer.place);
     printf("%lu %lu %u %lu %u ", (unsigned long)q.opening, (unsigned long)q.goals, (unsigned)q.bound, (unsigned long)q.jobs,
         (unsigned)q.atoms);
-    for (size_t i = 0; i < head[8]; i++) {
-        print_hex(&records[i], SAVED);
-    }
+    print_records();
+}
+
+/* Call 17: as the reader, without a bound. */
+static void answer_batches(void) {
+    nuzzlefleece_batch_answer told = nuzzlefleece_batches(table, head[9], records, head[8]);
+    print_refusal(told.answer.number, told.answer.second, told.answer.place);
+    printf("%lu %lu %lu %u ", (unsigned long)told.opening, (unsigned long)told.goals, (unsigned long)told.jobs, (unsigned)told.atoms);
+    print_records();
 }
 
 static void answer_writer(void) {
@@ -259,6 +272,9 @@ static void answer_call(void) {
         break;
     case 16:
         answer_lateness();
+        break;
+    case 17:
+        answer_batches();
         break;
     default:
         printf("unknown");

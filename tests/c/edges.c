@@ -1,7 +1,7 @@
 /*
  * Calls every function of the C library on the scope's example P3, with warm released later, under rule 2, on jobs that clash, on events as
- * they come, for reasons, where jobs run over, on full files, with nothing lent and with bad input, and holds each answer to the scope's
- * numbers. Last line: 'N passed, M failed'; any failure gives status 1.
+ * they come, for reasons, where jobs run over, on batches of every house group, on full files, with nothing lent and with bad input, and holds
+ * each answer to the scope's numbers. Last line: 'N passed, M failed'; any failure gives status 1.
  */
 #include <stdio.h>
 #include <string.h>
@@ -858,6 +858,153 @@ static void refuses_late_plans(void) {
     expect("nothing lent is changed", memcmp(jobs, once, sizeof once) == 0 && memcmp(starts, before, sizeof before) == 0);
 }
 
+/* The jobs of each house group alone: conditions, additions and deletions as words of facts, then the quarter hours. */
+static const uint8_t house_jobs[][4] = {
+    {0, 2, 0, 4},
+    {0, 2, 0, 4}, {3, 4, 1, 3}, {4, 1, 0, 1},
+    {0, 2, 0, 6}, {3, 4, 1, 3}, {4, 1, 0, 1}, {4, 8, 0, 8},
+    {0, 2, 0, 4}, {2, 4, 0, 12},
+    {0, 2, 0, 8}, {3, 4, 1, 3}, {4, 1, 0, 1}, {4, 8, 0, 16},
+    {0, 2, 0, 4}, {3, 4, 1, 3}, {4, 1, 0, 1}, {4, 8, 0, 8}, {8, 16, 0, 24},
+    {0, 2, 0, 12},
+    {0, 2, 0, 6}, {3, 4, 1, 2}, {4, 1, 0, 1}, {4, 8, 0, 12}, {9, 16, 1, 3}, {16, 1, 0, 1},
+    {0, 2, 0, 4}, {2, 4, 0, 8}, {4, 8, 0, 16}, {8, 16, 0, 32},
+    {0, 2, 0, 8}, {3, 4, 1, 3}, {4, 1, 0, 1}, {4, 8, 0, 24}, {9, 16, 1, 3}, {16, 1, 0, 1}, {16, 32, 0, 48},
+    {0, 2, 0, 4}, {3, 4, 1, 2}, {4, 1, 0, 1}, {4, 8, 0, 8}, {9, 16, 1, 2}, {16, 1, 0, 1}, {16, 32, 0, 16}, {32, 64, 0, 32},
+    {0, 2, 0, 96},
+};
+/* How many jobs each has, the first of them above, and how many facts there are with the bay. */
+static const struct {
+    uint8_t jobs, first, atoms;
+} house_groups[] = {{1, 0, 2}, {3, 1, 3}, {4, 4, 4}, {2, 8, 3}, {4, 10, 4}, {5, 14, 5}, {1, 19, 2}, {6, 20, 5}, {4, 26, 5}, {7, 30, 6}, {8, 37, 7},
+    {1, 45, 2}};
+
+/* The records that are lent for batches, and the byte that fills them before each call. */
+enum { BATCH_RECORDS = 40, BEFORE = 165 };
+static nuzzlefleece_action batch_records[BATCH_RECORDS];
+
+static nuzzlefleece_batch_answer enter(const uint8_t *groups, size_t batches, size_t lent) {
+    memset(batch_records, BEFORE, sizeof batch_records);
+    return nuzzlefleece_batches(groups, batches, batch_records, lent);
+}
+
+/* Whether the records from the first one behind the jobs on are as they were. */
+static int untouched_from(size_t jobs) {
+    return all_are((const uint8_t *)(batch_records + jobs), (BATCH_RECORDS - jobs) * sizeof(nuzzlefleece_action), BEFORE);
+}
+
+/* Batches are expanded to so many jobs and facts, with these goals. */
+static void expands(const char *what, nuzzlefleece_batch_answer told, size_t jobs, unsigned atoms, uint64_t goals) {
+    says(what, told.answer, 0, 0, 0);
+    expect(what, told.jobs == jobs && told.atoms == atoms && told.opening == FACT(0) && told.goals == goals && untouched_from(jobs));
+}
+
+/* Batches are refused: all numbers are 0, and no record is touched. */
+static void refuses_batches(const char *what, nuzzlefleece_batch_answer told, unsigned number, unsigned place) {
+    says(what, told.answer, number, place, 0);
+    expect(what, told.jobs == 0 && told.atoms == 0 && told.opening == 0 && told.goals == 0 && untouched_from(0));
+}
+
+/* The bay stays where it is, and the done facts are moved up behind those of the batches before. */
+static uint64_t moved(uint64_t facts, unsigned by) {
+    return (facts & 1) | (facts & ~(uint64_t)1) << by;
+}
+
+/* The records from a place on are the jobs of a group, with their done facts moved up. */
+static void has_group(const char *what, size_t at, unsigned group, unsigned by) {
+    int same = 1;
+    for (size_t i = 0; i < house_groups[group].jobs; i++) {
+        const uint8_t *wanted = house_jobs[house_groups[group].first + i];
+        nuzzlefleece_action job = batch_records[at + i];
+        same = same && job.conditions == moved(wanted[0], by) && job.additions == moved(wanted[1], by)
+            && job.deletions == moved(wanted[2], by) && job.duration == wanted[3] && job.release == 0;
+    }
+    expect(what, same);
+}
+
+/* Every group alone, and with every other one behind it; none; every group that there is not. */
+static void expands_groups(void) {
+    for (unsigned one = 0; one < 256; one++) {
+        uint8_t groups[] = {(uint8_t)one, 0};
+        if (one >= NUZZLEFLEECE_HOUSE_GROUPS) {
+            refuses_batches("no such group", enter(groups, 1, BATCH_RECORDS), NUZZLEFLEECE_GROUP_UNKNOWN, 0);
+            continue;
+        }
+        const unsigned jobs = house_groups[one].jobs, last = house_groups[one].atoms - 1u;
+        expands("one batch", enter(groups, 1, jobs), jobs, last + 1, FACT(last));
+        has_group("its jobs", 0, one, 0);
+        for (unsigned other = 0; other < NUZZLEFLEECE_HOUSE_GROUPS; other++) {
+            const unsigned goal = last + house_groups[other].atoms - 1;
+            groups[1] = (uint8_t)other;
+            expands("two batches", enter(groups, 2, 24), jobs + house_groups[other].jobs, goal + 1, FACT(last) | FACT(goal));
+            has_group("the first", 0, one, 0);
+            has_group("the second", jobs, other, last);
+        }
+    }
+    expands("no batches", enter(NULL, 0, BATCH_RECORDS), 0, 1, 0);
+}
+
+/* As many jobs as there may be, and more; records for just the jobs, and one too few. */
+static void expands_full_tables(void) {
+    static const uint8_t sevens[] = {7, 7, 7, 7}, three[] = {10, 10, 10}, over[] = {10, 10, 10, 0, 10, 10, 10, 1, 10, 10, 10, 10};
+    expands("four batches of group 7", enter(sevens, 4, 24), 24, 17, FACT(4) | FACT(8) | FACT(12) | FACT(16));
+    for (unsigned batch = 0; batch < 4; batch++) {
+        has_group("each of group 7", 6 * batch, 7, 4 * batch);
+    }
+    expands("three batches of group 10", enter(three, 3, 25), 24, 19, FACT(6) | FACT(12) | FACT(18));
+    for (unsigned batch = 0; batch < 3; batch++) {
+        has_group("each of group 10", 8 * batch, 10, 6 * batch);
+    }
+    for (size_t lent = 0; lent < 24; lent++) {
+        refuses_batches("too few records", enter(sevens, 4, lent), NUZZLEFLEECE_LENT_TOO_SHORT, 0);
+    }
+    for (size_t first = 0; first < sizeof over; first += 4) {
+        refuses_batches("over 24 jobs", enter(over + first, 4, BATCH_RECORDS), NUZZLEFLEECE_BATCHES_TOO_LARGE, 0);
+        refuses_batches("over 24 jobs, no records", enter(over + first, 4, 0), NUZZLEFLEECE_BATCHES_TOO_LARGE, 0);
+    }
+}
+
+/* A group that there is not comes before too many batches, wherever it stands, and both before too few records. */
+static void refuses_groups(void) {
+    static const uint16_t far[] = {65534, 65535, 65535};
+    static const size_t stands[] = {65534, 65535, 70000};
+    static uint8_t groups[70001];
+    for (size_t place = 0; place < 8; place++) {
+        uint8_t few[] = {7, 10, 10, 10, 0, 0, 0, 0};
+        few[place] = place % 2 == 0 ? 12 : 255;
+        refuses_batches("an unknown group", enter(few, 8, 0), NUZZLEFLEECE_GROUP_UNKNOWN, (unsigned)place);
+        refuses_batches("as the last", enter(few, place + 1, BATCH_RECORDS), NUZZLEFLEECE_GROUP_UNKNOWN, (unsigned)place);
+        few[7] = 200;
+        refuses_batches("the lowest of two", enter(few, 8, 24), NUZZLEFLEECE_GROUP_UNKNOWN, (unsigned)place);
+    }
+    for (size_t batches = 5; batches < 70000; batches *= 3) {
+        refuses_batches("more than four", enter(groups, batches, BATCH_RECORDS), NUZZLEFLEECE_TOO_MANY_BATCHES, 4);
+        refuses_batches("more than four, no records", enter(groups, batches, 0), NUZZLEFLEECE_TOO_MANY_BATCHES, 4);
+    }
+    for (size_t i = 0; i < 3; i++) {
+        groups[stands[i]] = 12;
+        refuses_batches("far behind", enter(groups, stands[i] + 1, 24), NUZZLEFLEECE_GROUP_UNKNOWN, far[i]);
+        groups[stands[i]] = 0;
+    }
+}
+
+/* What batches are expanded to is planned as it stands, by either rule: the second batch of group 7 waits twice for the bay. */
+static void plans_batches(void) {
+    static const uint8_t sevens[] = {7, 7};
+    uint16_t starts[12] = {0};
+    nuzzlefleece_batch_answer told = enter(sevens, 2, BATCH_RECORDS);
+    nuzzlefleece_ask ask = {.jobs = told.jobs, .atoms = told.atoms, .opening = told.opening, .goals = told.goals, .bound = 2880};
+    says("two batches of group 7", nuzzlefleece_least_bound(batch_records, BATCH_RECORDS, ask, starts, 12), 0, 0, 27);
+    expect("the last clearing is left out", starts[10] == 24 && starts[11] == NUZZLEFLEECE_OUT);
+    ask.bound = 26;
+    says("no sooner", nuzzlefleece_plan_within(batch_records, BATCH_RECORDS, ask, starts, 12), NUZZLEFLEECE_NO_PLAN, 0, 0);
+    ask.bound = 2880;
+    ask.atoms += NUZZLEFLEECE_RULE_2;
+    says("the same under rule 2", nuzzlefleece_least_bound(batch_records, BATCH_RECORDS, ask, starts, 12), 0, 0, 32);
+    ask = (nuzzlefleece_ask){.atoms = 1, .opening = 1};
+    says("no batches", nuzzlefleece_least_bound(batch_records, BATCH_RECORDS, ask, starts, 12), 0, 0, 0);
+}
+
 /* A save is read back, and its page is bench-plan's text. */
 static void answers_files(void) {
     static uint8_t file[200], text[NUZZLEFLEECE_PAGE_BYTES];
@@ -990,6 +1137,7 @@ static void answers_readings(void) {
 
 /* Nothing lent, null pointers: P7's empty plan, and 3 where something is to be filled. */
 static void takes_null(void) {
+    const uint8_t group = 0;
     nuzzlefleece_ask ask = {.atoms = 2, .opening = 1};
     nuzzlefleece_save save = {.ask = ask};
     nuzzlefleece_watch watch = {.ask = ask, .job = 9};
@@ -1010,6 +1158,8 @@ static void takes_null(void) {
     overruns.ask.goals = 2;
     says("null: a goal before 97", nuzzlefleece_how_late(NULL, 0, overruns, NULL, 0), NUZZLEFLEECE_GOAL_MISSING, 1, 0);
     reasons("null: why no plan", nuzzlefleece_why_no_plan(NULL, 0, ask), 0, 0, NUZZLEFLEECE_WHY_NEITHER, NUZZLEFLEECE_NO_FACT);
+    says("null: batches", nuzzlefleece_batches(NULL, 0, NULL, 0).answer, 0, 0, 0);
+    says("null: a batch", nuzzlefleece_batches(&group, 1, NULL, 0).answer, NUZZLEFLEECE_LENT_TOO_SHORT, 0, 0);
     says("null: read file", nuzzlefleece_read_file(NULL, 0, NULL, 0).answer, NUZZLEFLEECE_FILE_DAMAGED, 0, 0);
     says("null: write file", nuzzlefleece_write_file(NULL, 0, save, NULL, 0), NUZZLEFLEECE_LENT_TOO_SHORT, 0, 0);
     says("null: tidy", nuzzlefleece_tidy(0, NULL, 0), NUZZLEFLEECE_FILE_DAMAGED, 0, 0);
@@ -1060,11 +1210,15 @@ static void describes_itself(void) {
     expect("version", nuzzlefleece_version() == NUZZLEFLEECE_VERSION);
     expect("a record has 32 bytes", sizeof(nuzzlefleece_action) == NUZZLEFLEECE_RECORD_BYTES);
     for (unsigned number = 0; number <= NUZZLEFLEECE_OVERRUN_WRONG + 1; number++) {
-        int known = number <= NUZZLEFLEECE_BEFORE_RELEASE || number == NUZZLEFLEECE_NOT_IN_SET || number == NUZZLEFLEECE_OVERRUN_WRONG;
+        int known = number <= NUZZLEFLEECE_BEFORE_RELEASE || (number >= NUZZLEFLEECE_NOT_IN_SET && number <= NUZZLEFLEECE_BATCHES_TOO_LARGE)
+            || number == NUZZLEFLEECE_OVERRUN_WRONG;
         expect("words of a refusal, and of no other", (strcmp(nuzzlefleece_words(number), "no such refusal") != 0) == known);
     }
     expect("words of 20", strcmp(nuzzlefleece_words(NUZZLEFLEECE_RELEASE_WRONG), "a release over 2,880") == 0);
     expect("words of 27", strcmp(nuzzlefleece_words(NUZZLEFLEECE_NOT_IN_SET), "why a job starts: it is not in the set") == 0);
+    expect("words of 28", strcmp(nuzzlefleece_words(NUZZLEFLEECE_GROUP_UNKNOWN), "batches: no such house group") == 0);
+    expect("words of 29", strcmp(nuzzlefleece_words(NUZZLEFLEECE_TOO_MANY_BATCHES), "batches: more than 4") == 0);
+    expect("words of 30", strcmp(nuzzlefleece_words(NUZZLEFLEECE_BATCHES_TOO_LARGE), "batches: over 24 jobs") == 0);
     expect("words of 34", strcmp(nuzzlefleece_words(NUZZLEFLEECE_OVERRUN_WRONG), "how late: more than 96 quarter hours over") == 0);
 }
 
@@ -1104,6 +1258,10 @@ int main(void) {
     refuses_overruns();
     refuses_late_tables();
     refuses_late_plans();
+    expands_groups();
+    expands_full_tables();
+    refuses_groups();
+    plans_batches();
     answers_files();
     tidies_full_files();
     tidies_notes();

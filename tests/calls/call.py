@@ -5,7 +5,7 @@ from typing import NamedTuple
 KINDS = {
     1: 'check plan', 2: 'plan within bound', 3: 'least bound', 4: 'supports', 5: 'binding pairs',
     6: 'estimates', 7: 'settle', 8: 'read file', 9: 'write file', 10: 'opening facts', 11: 'why jobs clash',
-    12: 'tidy file', 13: 'follow', 14: 'why job starts', 15: 'why no plan', 16: 'how late',
+    12: 'tidy file', 13: 'follow', 14: 'why job starts', 15: 'why no plan', 16: 'how late', 17: 'batches',
 }
 EVENTS = {0: 'start', 1: 'finish'}
 WORDS = 16
@@ -74,11 +74,11 @@ def file_end(call):
 
 
 def atom_byte(call):
-    """The atom count of a call, or of the file that it reads or tidies, with its mark; None where there is none."""
+    """The atom count that a call gives, or the file that it reads or tidies, with its mark; None where there is none."""
     if call.head[0] in (8, 12):
         end = file_end(call)
         return call.table[end - TRAILER + ATOMS_AT] if TRAILER <= end <= len(call.table) else None
-    return None if call.head[0] in (10, 11) else call.head[2]
+    return None if call.head[0] in (10, 11, 17) else call.head[2]
 
 
 def with_atom_byte(call, byte):
@@ -186,6 +186,12 @@ def given_text(call):
     return []
 
 
+def batches_text(call):
+    """The groups, of very many the last ones."""
+    before = '.. ' if len(call.table) > 40 else ''
+    return [f'{call.head[8]} records lent', f'{len(call.table)} batches of the groups {before}' + ' '.join(map(str, call.table[-40:]))]
+
+
 def buffer_text(call):
     return [f'bytes in use {call.head[6]}', bytes_text('buffer', call.table)]
 
@@ -212,6 +218,8 @@ def call_text(call):
         lines = [job_text(job) for job in call.records]
     elif kind == 12:
         lines = buffer_text(call)
+    elif kind == 17:
+        lines = batches_text(call)
     else:
         lines = table_text(call) + given_text(call)
     if kind in (2, 3, 4, 5, 6, 7, 14):

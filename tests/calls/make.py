@@ -9,6 +9,7 @@ import sys
 from dataclasses import replace
 
 sys.dont_write_bytecode = True
+import batches
 import clashes
 import files
 import follows
@@ -35,6 +36,7 @@ TIDY_SEED, TIDY_DRAWN = 20100725, 600
 FOLLOW_SEED, FOLLOW_DRAWN = 20110725, 100
 REASON_SEED, REASON_DRAWN = 20120725, 150
 LATENESS_SEED, LATENESS_DRAWN = 20130725, 150
+BATCHES_SEED, BATCHES_DRAWN = 20140725, 100
 
 
 # Planning.
@@ -139,8 +141,8 @@ def opening(dice, crates):
 
 def named(dice):
     """Planning of the named problems at and around their bounds."""
-    batches = ((0,), (1,), (10,), (2, 1), (5, 7), (7, 7), (9, 4), (11, 6), (1, 7, 7), (0, 1, 2, 3))
-    houses = [house(groups) for groups in batches]
+    lists = ((0,), (1,), (10,), (2, 1), (5, 7), (7, 7), (9, 4), (11, 6), (1, 7, 7), (0, 1, 2, 3))
+    houses = [house(groups) for groups in lists]
     towers = [tower(2), tower(3), chain([1, 960, 960, 959], True), chain([5] * 24, True), chain([3] * 12, False)]
     for problem in NAMED + houses + towers:
         for bound in (0, 11, 12, 13, LAST_BOUND):
@@ -196,20 +198,21 @@ def mixed(seed, walks, count=0, crates=ON_TIME):
 def corpus():
     """The fixed calls: those that stood before there were releases, unchanged, behind them those with releases, those
     under rule 2, those on clashes, those beside halves of a tenth, estimates that take many rounds, files to tidy, plans to
-    follow, those that ask for reasons, and last those that ask how late it can get."""
+    follow, those that ask for reasons, those that ask how late it can get, and last batches."""
     return (mixed(SEED, WALKS, DRAWN, ON_TIME) + mixed(LATE_SEED, releases.WALKS, LATE_DRAWN, LATE)
             + mixed(GAP_SEED, gaps.WALKS, GAP_DRAWN, HYGIENE) + mixed(CLASH_SEED, clashes.WALKS)
             + mixed(TENTHS_SEED, (readings.beside_halves,)) + mixed(ROUNDS_SEED, rounds.WALKS)
             + mixed(TIDY_SEED, (*tidies.WALKS, several(tidies.drawn, TIDY_DRAWN)))
             + mixed(FOLLOW_SEED, (*follows.WALKS, several(follows.drawn, FOLLOW_DRAWN)))
             + mixed(REASON_SEED, (*reasons.WALKS, several(reasons.drawn, REASON_DRAWN)))
-            + mixed(LATENESS_SEED, (*lateness.WALKS, several(lateness.drawn, LATENESS_DRAWN))))
+            + mixed(LATENESS_SEED, (*lateness.WALKS, several(lateness.drawn, LATENESS_DRAWN)))
+            + mixed(BATCHES_SEED, (*batches.WALKS, several(batches.drawn, BATCHES_DRAWN))))
 
 
 def more(count, seed):
     """A tenth of the calls on clashes, one in fifty beside halves of a tenth, one in fifty for estimates that take many rounds, one in
-    twenty each on files to tidy, on plans to follow, for reasons and for how late it can get; of the others half under rule 2, half of all
-    on tables with releases."""
+    twenty each on files to tidy, on plans to follow, for reasons and for how late it can get, one in fifty on batches; of the others half
+    under rule 2, half of all on tables with releases."""
     dice = random.Random(seed)
     for _ in range(count):
         chance = dice.random()
@@ -227,6 +230,8 @@ def more(count, seed):
             yield reasons.drawn(dice)
         elif chance < 0.34:
             yield lateness.drawn(dice)
+        elif chance < 0.36:
+            yield batches.drawn(dice)
         else:
             yield from drawn(dice, 1, dice.choice((ON_TIME, LATE, HYGIENE, HYGIENE)))
 

@@ -1,9 +1,10 @@
 #!/usr/bin/env python3
-"""tools/jobfile: known bytes, the round trip, each error with its line, each warning, files tidied, and what cannot be read or
+"""tools/jobfile: known bytes, the round trip, each error with its line, each warning, files tidied, batches named, and what cannot be read or
 written. Last line: 'N passed, M failed'."""
 import os
 import random
 import re
+import shutil
 import struct
 import subprocess
 import sys
@@ -12,7 +13,9 @@ import tempfile
 sys.dont_write_bytecode = True
 ROOT = os.path.join(os.path.dirname(os.path.abspath(__file__)), '../..')
 sys.path.insert(0, os.path.join(ROOT, 'tests/calls'))
+from draft import save_bytes
 from held import answers_to
+from tables import house
 from tidies import drawn, tidy_call
 
 TOOL = os.path.join(ROOT, 'tools/jobfile')
@@ -132,6 +135,53 @@ TIDIED = [
     (U_FILE + NO_JOBS, NO_JOBS, b'24 bytes, 176 before\n'),
     (NOTED_SAVE, NOTED_SAVE, b'157 bytes, 157 before\n'),
 ]
+# The groups of batches, a bound, and the text of both: no batches, one, four, and some of which none holds the bay.
+BATCHES = [
+    ('', 0, '''facts bay
+open bay
+goals
+bound 0
+'''),
+    ('2', 17, '''facts bay a1-done a2-done a3-done
+open bay
+goals a3-done
+bound 17
+
+job a1 6: -> a1-done
+job a2 3: a1-done bay -> a2-done - bay
+job a2-clear 1: a2-done -> bay
+job a3 8: a2-done -> a3-done
+'''),
+    ('11 1 3 1', 2880, '''facts bay a1-done b1-done b2-done c1-done c2-done d1-done d2-done
+open bay
+goals a1-done b2-done c2-done d2-done
+bound 2880
+
+job a1 96: -> a1-done
+job b1 4: -> b1-done
+job b2 3: b1-done bay -> b2-done - bay
+job b2-clear 1: b2-done -> bay
+job c1 4: -> c1-done
+job c2 12: c1-done -> c2-done
+job d1 4: -> d1-done
+job d2 3: d1-done bay -> d2-done - bay
+job d2-clear 1: d2-done -> bay
+'''),
+    ('3 0', 5, '''facts bay a1-done a2-done b1-done
+open bay
+goals a2-done b1-done
+bound 5
+
+job a1 4: -> a1-done
+job a2 12: a1-done -> a2-done
+job b1 4: -> b1-done
+'''),
+]
+# Batches whose text must give the file of these groups.
+MADE = [*((group,) for group in range(12)), (7, 7, 1), (7, 7, 7, 7), (10, 10, 10), (9, 9, 9, 1), (8, 8, 8, 8), ()]
+# Batches that are refused, with the number and the place.
+REFUSED = [('12', 28, 0), ('10 10 10 255', 28, 3), ('0 0 0 0 0 12 13', 28, 5), ('0 ' * 300 + '200', 28, 300), ('0 0 0 0 0', 29, 4),
+           ('10 10 10 0', 30, 0), ('10 10 10 10', 30, 0)]
 # What the shell does with the tool, and the words that must be said.
 UNABLE = [
     ('"$0" make </', 'is a folder'),
@@ -145,6 +195,21 @@ UNABLE = [
     ('"$0" tidy /dev/null', '/dev/null is no file'),
     ('"$0" tidy', 'usage'),
     ('"$0" tidy one two', 'usage'),
+    ('"$0" batches', 'usage'),
+    ('"$0" batches 7 7 1', 'usage'),
+    ('"$0" batches 7 --bound', 'usage'),
+    ('"$0" batches --bound 9 7 --bound 9', 'usage'),
+    ('"$0" batches 7 --bound 65536', 'the bound is a number from 0 to 65535'),
+    ('"$0" batches 7 --bound -1', 'the bound is a number from 0 to 65535'),
+    ('"$0" batches 7 --bound ""', 'the bound is a number from 0 to 65535'),
+    ('"$0" batches 7 256 --bound 9', "a group is a number from 0 to 255, not '256'"),
+    ('"$0" batches -1 --bound 9', "not '-1'"),
+    ('"$0" batches seven --bound 9', "not 'seven'"),
+    ('"$0" batches "" --bound 9', "not ''"),
+    ('"$0" batches "7 7" --bound 9', "not '7 7'"),
+    ('"$0" batches 7 --bound=9 --bound 9', "not '--bound=9'"),
+    ('"$0" batches 7 --bound 9 >&-', 'standard output cannot be written'),
+    ('"$0" batches 7 --bound 9 >/dev/full', 'standard output cannot be written'),
 ]
 
 
@@ -158,6 +223,52 @@ def refusal_words():
 def run(word, data):
     done = subprocess.run([TOOL, word], input=data, capture_output=True)
     return done.returncode, done.stdout, done.stderr.decode()
+
+
+def refusal_line(number, place):
+    """What is said of a refusal, by README's table."""
+    words, where = {int(row[0]): row[1:] for row in refusal_words()}[number]
+    return f'refusal {number}: {words}' + (f'; place {place}: {where}' if where != '0' else '') + '\n'
+
+
+def expand(words, tool=TOOL, **options):
+    """What the tool says to batches."""
+    done = subprocess.run([tool, 'batches', *words], capture_output=True, **options)
+    return done.returncode, done.stdout.decode(), done.stderr.decode()
+
+
+def batch_cases():
+    """Texts known and texts made into files, the bound anywhere and over 2,880, and refusals."""
+    for groups, bound, text in BATCHES:
+        yield f'batches {groups!r}', expand([*groups.split(), '--bound', str(bound)]) == (0, text, '')
+    for groups in MADE:
+        status, text, said = expand([*map(str, groups), '--bound', '2880'])
+        table = house(groups)
+        file = save_bytes(table.jobs, len(table.jobs), table.atoms, 1, table.goals, 2880, 32 * len(table.jobs))
+        yield f'the file of {groups}', (status, said) == (0, '') and run('make', text.encode()) == (0, file, '')
+    groups, bound, text = BATCHES[2]
+    for at in range(4):
+        words = groups.split()
+        words[at:at] = ['--bound', f'0{bound}']
+        yield f'the bound before batch {at}', expand(words) == (0, text, '')
+    for over in (2881, 65535):
+        wanted = 0, text.replace('bound 2880', f'bound {over}'), 'jobfile: warning: the planner will refuse this, ' + refusal_line(9, 0)
+        yield f'bound {over}', expand([*groups.split(), '--bound', str(over)]) == wanted
+    for groups, number, place in REFUSED:
+        yield f'refusal {number} at {place}', expand([*groups.split(), '--bound', '9']) == (1, '', 'jobfile: ' + refusal_line(number, place))
+
+
+def unbuilt_cases(room):
+    """A copy of the tool where the program that expands batches is not built, and where what stands in its place is no program."""
+    shutil.copytree(os.path.join(ROOT, 'tools'), os.path.join(room, 'alone/tools'))
+    alone = os.path.join(room, 'alone')
+    call = lambda: expand(['7', '--bound', '9'], os.path.join(alone, 'tools/jobfile'), cwd=alone)
+    yield 'no program', call() == (2, '', "jobfile: run-program: no program batch_file; 'rt check' builds it\n")
+    os.makedirs(os.path.join(alone, 'target/bin'))
+    with open(os.path.join(alone, 'target/bin/batch_file'), 'w', encoding='utf-8') as file:
+        file.write('no program')
+    status, out, said = call()
+    yield 'a file that is none', (status, out) == (2, '') and said.startswith('jobfile: ')
 
 
 def unable(command, words):
@@ -290,27 +401,28 @@ def cases():
         status, out, said = run('show', file)
         yield f'bad file {words!r}', (status, out) == (1, b'') and words in said
     yield 'usage', run('take', b'')[0] == 2
-    yield 'help', run('--help', b'')[::2] == (0, '') and all(word in run('--help', b'')[1] for word in (b'release 6', b'rule 2', b'tidy FILE'))
+    explained = b'release 6', b'rule 2', b'tidy FILE', b'batches 7 7 1 --bound 2880'
+    yield 'help', run('--help', b'')[::2] == (0, '') and all(words in run('--help', b'')[1] for words in explained)
     yield 'byte order mark', run('make', b'\xef\xbb\xbf' + U.encode()) == (0, U_FILE, '')
     yield 'zeros before a number', run('make', U.replace('bound 12', 'bound ' + '0' * 9999 + '12').encode()) == (0, U_FILE, '')
     table = refusal_words()
     with open(os.path.join(ROOT, 'tools/refusals'), encoding='utf-8') as lines:
         told = [tuple(line.rstrip('\n').split('|')) for line in lines]
-    yield 'words of the refusals', told == table and len(table) == 23
-    said_of = {int(number): (words, where) for number, words, where in table}
+    yield 'words of the refusals', told == table and len(table) == 26
     for text, number, place in WARNED:
         status, out, said = run('make', text.encode())
-        words, where = said_of[number]
-        wanted = f'refusal {number}: {words}' + (f'; place {place}: {where}' if where != '0' else '') + '\n'
-        yield f'warning of {number} at {place}', status == 0 and len(out) >= 24 and said.startswith('jobfile: warning: ') and said.endswith(wanted)
+        right = said.startswith('jobfile: warning: ') and said.endswith(refusal_line(number, place))
+        yield f'warning of {number} at {place}', status == 0 and len(out) >= 24 and right
     yield 'no warning', run('make', IN_ORDER.encode())[::2] == (0, '')
     yield 'no warning under rule 2', run('make', f'rule 2\n{IN_ORDER}'.encode())[::2] == (0, '')
     for command, words in UNABLE:
         yield f'unable: {command}', unable(command, words)
     yield 'a broken pipe', broken_pipe()
+    yield from batch_cases()
     with tempfile.TemporaryDirectory() as room:
         yield from tidy_cases(room)
         yield from failing_cases(room)
+        yield from unbuilt_cases(room)
         yield from library_cases(room, dice)
 
 

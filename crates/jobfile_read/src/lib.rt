@@ -5,10 +5,11 @@ ghost use lib.ListN.{length};
 ghost use Rattle.facts.specs.Least.{any};
 ghost use Rattle.tables.specs.Steps.{Tests};
 ghost use Rattle.jobfile.specs.Format.{distanceIn, tooFar, spoilt, actionIn, firstOf, tableIn};
-ghost use Rattle.jobfile.specs.Calls.{recordChecks, saveChecks, handed, handedFrom, nothing, reading};
+ghost use Rattle.jobfile.specs.Calls.{recordChecks, saveChecks, handed, handedFrom, reading};
 ghost use Rattle.jobfile_read.specs.Steps.{TrailerAsk};
 use bytes_le::number;
 use jobfile::Read;
+use jobfile::nothing;
 use tables::Action;
 use tables::Answer;
 use tables::Ask;
@@ -93,27 +94,6 @@ fn too_far(distance: usize, jobs: usize, before: usize) -> bool
     ensures { λ r. ⌜ Tests (tooFar distance jobs before) ((32 * jobs ≤ distance) × (distance ≤ before)) r ⌝ }
 {
     distance < 32 * jobs || before < distance
-}
-
-// What is returned on refusal.
-fn nothing(a: Answer) -> Read
-    ensures { λ r. ⌜ r ≡ nothing a ⌝ }
-{
-    let ask = Ask {
-        jobs: 0,
-        atoms: 0,
-        opening: 0,
-        goals: 0,
-        bound: 0,
-        set: 0,
-        pairs: 0,
-    };
-    let table = tables::no_jobs(0);
-    Read {
-        answer: a,
-        ask,
-        table,
-    }
 }
 
 // The records of a save, with its numbers.

@@ -20,6 +20,10 @@ use Rattle.reasons.proofs.Question as question
 use Rattle.reasons.proofs.Question.Laws as question′
 use Rattle.reasons.proofs.Reason as reason
 use Rattle.reasons.proofs.Reason.Laws as reason′
+use Rattle.batches.proofs.BatchAnswer as batch
+use Rattle.batches.proofs.BatchAnswer.Laws as batch′
+use Rattle.nuzzlefleece.proofs.ReadAnswer as read
+use Rattle.nuzzlefleece.proofs.ReadAnswer.Laws as read′
 use Rattle.nuzzlefleece.proofs.Save as save
 use Rattle.nuzzlefleece.proofs.Save.Laws as save′
 
@@ -54,3 +58,9 @@ questions = record { type = question.the-type; laws = question′.the-laws; plai
 
 abbrev pub reasons : Numbers
 reasons = record { type = reason.the-type; laws = reason′.the-laws; plain = reason′.the-plain; last = λ p. tt; still = λ p l. refl }
+
+abbrev pub reads : Numbers
+reads = record { type = read.the-type; laws = read′.the-laws; plain = read′.the-plain; last = λ p. tt; still = λ p l. refl }
+
+abbrev pub batched : Numbers
+batched = record { type = batch.the-type; laws = batch′.the-laws; plain = batch′.the-plain; last = λ p. tt; still = λ p l. refl }

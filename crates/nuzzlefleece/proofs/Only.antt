@@ -17,6 +17,9 @@ use Rattle.following.proofs.Only as following
 use Rattle.lateness.specs.declared.Overruns.{Overruns}
 use Rattle.lateness.specs.Lateness.{HowLate}
 use Rattle.lateness.proofs.Only as lateness
+use Rattle.batches.specs.declared.BatchAnswer.{BatchAnswer}
+use Rattle.batches.specs.Batches.{Batches}
+use Rattle.batches.proofs.Only as batches
 use Rattle.estimates.specs.Earliest.{Earliest}
 use Rattle.estimates.proofs.Only as estimates
 use Rattle.settle.specs.Settle.{Settling}
@@ -85,7 +88,10 @@ write-file-only ts w old new new′ r s = jobfile_write.write-file-only (loaded 
 pub tidy-only : (used : ℕ) (old new new′ : List ℕ) (r s : Answer) → Tidies used old new r → Tidies used old new′ s → (r ≡ s) × (new ≡ new′)
 tidy-only = jobfile_tidy.tidy-only
 
--- ── the reader ──
+-- ── filled records ──
 
 pub read-file-only : (file : List ℕ) (old new new′ : List Action) (r s : ReadAnswer) → Reads file old new r → Reads file old new′ s → (r ≡ s) × (new ≡ new′)
 read-file-only file old new new′ r s x y = (x .says ∙ sym (y .says), x .records ∙ sym (y .records))
+
+pub batches-only : (gs : List ℕ) (old new new′ : List Action) (r s : BatchAnswer) → Batches gs old new r → Batches gs old new′ s → (r ≡ s) × (new ≡ new′)
+batches-only = batches.batches-only

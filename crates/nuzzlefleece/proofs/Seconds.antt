@@ -31,6 +31,9 @@ use Rattle.following.specs.Screens.{Following}
 use Rattle.lateness.specs.declared.Overruns.{Overruns}
 use Rattle.lateness.specs.Lateness.{lateVerdict, HowLate}
 use Rattle.lateness.proofs.Only.{late-checks}
+use Rattle.batches.specs.declared.BatchAnswer.{BatchAnswer}
+use Rattle.batches.specs.Batches.{batchChecks, Batches}
+use Rattle.batches.proofs.Only.{checks-second}
 use Rattle.estimates.specs.Earliest.{Earliest}
 use Rattle.settle.specs.Settle.{settlingChecks, Settling}
 use Rattle.settle.proofs.Faults.{all-checks}
@@ -180,6 +183,9 @@ reads file room = if-second _ 1 0 _ (if-second _ 2 0 _ (if-second _ 2 0 (recordC
 
 pub read-file-second : (file : List ℕ) (old new : List Action) (r : ReadAnswer) → Reads file old new r → Told12 (r .answer)
 read-file-second file old new r x = answered (readChecks file (length old)) 0 0 (reads file (length old)) (ap (λ (s : ReadAnswer). s .answer) (x .says) ∙ reading-says file (length old))
+
+pub batches-second : (gs : List ℕ) (old new : List Action) (r : BatchAnswer) → Batches gs old new r → Told12 (r .answer)
+batches-second gs old new r x = answered (batchChecks gs (length old)) 0 0 (checks-second gs (length old)) (x .expands .says)
 
 pub tidy-second : (used : ℕ) (old new : List ℕ) (r : Answer) → Tidies used old new r → Told12 r
 unfolding tidyChecks

@@ -7,6 +7,7 @@ ghost use Rattle.verdict.specs.Offered.{ChecksPlan};
 ghost use Rattle.bindings.specs.Bindings.{Supports, Pairs};
 ghost use Rattle.following.specs.Screens.{Following};
 ghost use Rattle.lateness.specs.Lateness.{HowLate};
+ghost use Rattle.batches.specs.Batches.{Batches};
 ghost use Rattle.estimates.specs.Earliest.{Earliest};
 ghost use Rattle.settle.specs.Settle.{Settling};
 ghost use Rattle.reasons.specs.Reasons.{WhyStart, WhyNoPlan};
@@ -19,6 +20,7 @@ ghost use Rattle.nuzzlefleece.specs.Files.{told, Reads};
 ghost use Rattle.readings.specs.Marks.{marksOf};
 ghost use Rattle.readings.specs.Opening.{Opens};
 ghost use Rattle.page.specs.Page.{Pages};
+use batches::BatchAnswer;
 use following::Screen;
 use following::Watch;
 use jobfile::Read;
@@ -38,7 +40,7 @@ use tables::Loaded;
 pub extern "C" fn nuzzlefleece_version() -> u32
     ensures { λ r. ⌜ r ≡ version ⌝ }
 {
-    10800
+    10900
 }
 
 // The verdict on an offered plan.
@@ -161,6 +163,16 @@ pub extern "C" fn nuzzlefleece_why_no_plan(t: &[Action], q: Ask) -> Reason
 {
     let l = records::load(t);
     reasons::why_no_plan(l, q)
+}
+
+// Expands batches, a house group each, into the lent records, one a job; those behind the last job stay as they are. No bound comes out.
+#[no_mangle]
+pub extern "C" fn nuzzlefleece_batches(groups: &[u8], t: &mut [Action]) -> BatchAnswer
+    ensures { λ r. ⌜ Batches (now (groups .entry)) (now (t .entry)) (now (t .exit)) r ⌝ }
+{
+    let r = batches::expand(groups, t.len());
+    records::scatter(t, r.table, r.ask.jobs);
+    batches::batched(r)
 }
 
 // What reading a job file says beside the records.

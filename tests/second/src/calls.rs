@@ -1,5 +1,6 @@
 //! A stream of calls: a header of 16 words, the lent records, the given tables; one line of answer a call.
 
+use crate::batches::{enter, Expanded};
 use crate::examples::Dice;
 use crate::files::{job_bytes, job_from, read_file, tidy, write_file, Saved};
 use crate::following::{follow, Watch};
@@ -86,6 +87,11 @@ fn told_file(result: &Result<Saved, Refusal>) -> String {
     told(&result.as_ref().map(line).map_err(|refusal| *refusal), line(&Saved::default()))
 }
 
+fn told_batches(result: &Result<Expanded, Refusal>) -> String {
+    let line = |e: &Expanded| format!("{} {} {} {}", e.opening, e.goals, e.jobs.len(), e.atoms);
+    told(&result.as_ref().map(line).map_err(|refusal| *refusal), "0 0 0 0".to_string())
+}
+
 /// What is said to a call that there is not.
 fn unknown() -> String {
     "unknown".to_string()
@@ -151,7 +157,7 @@ impl Call {
                 |table| settle(&self.given(), self.head[6], self.head[7], &self.table, table).map(|_| 0),
                 0,
             ),
-            8 => self.answer_reader(),
+            8 => self.answer_in_records(|lent| told_file(&read_file(&self.table, lent))),
             9 => self.answer_in_buffer(|buffer| write_file(&self.given(), buffer, self.head[6])),
             10 => self.answer_readings(),
             11 => self.answer_clash(),
@@ -163,6 +169,7 @@ impl Call {
             }),
             15 => self.answer_no_plan(),
             16 => told(&how_late(&self.given(), &halves(&self.table), self.most_overrun()), 0),
+            17 => self.answer_in_records(|lent| told_batches(&enter(&self.table, lent))),
             _ => unknown(),
         }
     }
@@ -183,10 +190,10 @@ impl Call {
         format!("{} {}", told(&result, 0), hex(table))
     }
 
-    fn answer_reader(&self) -> String {
+    fn answer_in_records(&self, call: impl FnOnce(&mut [Job]) -> String) -> String {
         let mut lent = self.records.clone();
-        let result = read_file(&self.table, &mut lent);
-        format!("{} {}", told_file(&result), hex(lent.iter().flat_map(job_bytes)))
+        let answer = call(&mut lent);
+        format!("{answer} {}", hex(lent.iter().flat_map(job_bytes)))
     }
 
     fn answer_in_buffer(&self, call: impl FnOnce(&mut [u8]) -> Result<u64, Refusal>) -> String {

@@ -1,5 +1,6 @@
 //! Job tables for the self-test: jobs U, house batches, trolleys, chains, random tables and plans.
 
+use crate::batches::{expand, Expanded};
 use crate::brute::earliest_place;
 use crate::rules::{finish, Given, Job, Problem, OUT};
 
@@ -74,39 +75,11 @@ pub fn go_twice() -> Example {
     Example { jobs, atoms: 4, opening: word(&[0]), goals: word(&[1, 3]), bound: 12 }
 }
 
-/// Stage durations of the house groups, with true where the wash bay is held.
-const GROUPS: [&[(u16, bool)]; 12] = [
-    &[(4, false)],
-    &[(4, false), (3, true)],
-    &[(6, false), (3, true), (8, false)],
-    &[(4, false), (12, false)],
-    &[(8, false), (3, true), (16, false)],
-    &[(4, false), (3, true), (8, false), (24, false)],
-    &[(12, false)],
-    &[(6, false), (2, true), (12, false), (3, true)],
-    &[(4, false), (8, false), (16, false), (32, false)],
-    &[(8, false), (3, true), (24, false), (3, true), (48, false)],
-    &[(4, false), (2, true), (8, false), (2, true), (16, false), (32, false)],
-    &[(96, false)],
-];
-
-/// House batches: fact 0 is the bay, the done facts follow; a clearing job stands behind each stage that holds it.
-pub fn house(batches: &[usize]) -> Example {
-    let (mut jobs, mut goals, mut facts) = (Vec::new(), 0, 1u64);
-    for &group in batches {
-        let mut before: Vec<u64> = Vec::new();
-        for &(duration, bay) in GROUPS[group] {
-            let held: &[u64] = if bay { &[0] } else { &[] };
-            jobs.push(job(&[&before[..], held].concat(), &[facts], held, duration));
-            if bay {
-                jobs.push(job(&[facts], &[0], &[], 1));
-            }
-            before = vec![facts];
-            facts += 1;
-        }
-        goals |= word(&before);
-    }
-    Example { jobs, atoms: facts, opening: 1, goals, bound: 2_880 }
+/// Batches of these house groups, with all the time there is.
+pub fn house(groups: &[u8]) -> Example {
+    let Expanded { jobs, atoms, opening, goals } =
+        expand(groups).expect("few batches of groups that there are");
+    Example { jobs, atoms, opening, goals, bound: 2_880 }
 }
 
 /// A trolley with one slot between two places, carrying crates one by one.

@@ -1,5 +1,6 @@
 //! The second program: the rules of the planner once more, to compare answers with.
 
+mod batches;
 mod bench;
 mod brute;
 mod calls;

@@ -1,5 +1,6 @@
 //! The self-test.
 
+use crate::batches::{enter, expand, Expanded};
 use crate::brute;
 use crate::calls;
 use crate::examples::{chain, go_twice, house, job, jobs_u, trolley, word, Dice, Example};
@@ -62,6 +63,7 @@ pub fn run() -> ExitCode {
     test_why_start(&mut tally);
     test_why_no_plan(&mut tally);
     test_how_late(&mut tally);
+    test_batches(&mut tally);
     test_gap_as_length(&mut tally);
     test_table_checks(&mut tally);
     test_rule_marks(&mut tally);
@@ -1453,6 +1455,213 @@ fn all_answers(example: &Example, starts: &[u16], pairs: &[u8]) -> impl PartialE
     (answers, supported, bound, estimated, settled, chain)
 }
 
+/// The house groups as the scope lists them, b where the wash bay is held.
+const HOUSE_GROUPS: &str =
+    "4; 4 3b; 6 3b 8; 4 12; 8 3b 16; 4 3b 8 24; 12; 6 2b 12 3b; 4 8 16 32; 8 3b 24 3b 48; 4 2b 8 2b 16 32; 96";
+
+/// How long each stage of a group is, and whether it holds the bay.
+type Stages = Vec<(u16, bool)>;
+
+fn house_groups() -> Vec<Stages> {
+    let stage = |word: &str| (word.trim_end_matches('b').parse().expect("a number"), word.ends_with('b'));
+    HOUSE_GROUPS.split(';').map(|group| group.split_whitespace().map(stage).collect()).collect()
+}
+
+/// Every list of up to four house groups.
+fn lists_of_groups() -> Vec<Vec<u8>> {
+    let mut lists = vec![vec![]];
+    let mut longest = 0..1;
+    for _ in 0..4 {
+        let longer: Vec<Vec<u8>> = lists[longest]
+            .iter()
+            .flat_map(|list: &Vec<u8>| (0..12).map(|group| [&list[..], &[group]].concat()))
+            .collect();
+        longest = lists.len()..lists.len() + longer.len();
+        lists.extend(longer);
+    }
+    lists
+}
+
+/// Each list of up to four groups against the sentences of change request Thirteen; least bounds; refusals.
+fn test_batches(tally: &mut Tally) {
+    let (groups, lists) = (house_groups(), lists_of_groups());
+    tally.same("lists of up to four groups", lists.len(), 22_621);
+    for list in lists {
+        let batches: Vec<Stages> = list.iter().map(|&group| groups[group as usize].clone()).collect();
+        check_list(tally, &list, &batches);
+    }
+    test_least_bounds_of_batches(tally);
+    test_unknown_groups(tally);
+    test_records_for_batches(tally);
+}
+
+/// A stage is a job, and so is the clearing behind each stage that holds the bay: over 24 of these are refused.
+fn check_list(tally: &mut Tally, list: &[u8], batches: &[Stages]) {
+    let stages = batches.iter().flatten();
+    let count: usize = stages.clone().map(|&(_, held)| 1 + held as usize).sum();
+    let found = expand(list);
+    let says =
+        |tally: &mut Tally, what: &str, holds| tally.check(&format!("batches {list:?}: {what}"), holds);
+    says(tally, "over 24 jobs", found.is_err() == (count > 24));
+    match found {
+        Err(refusal) => tally.same("batches over 24 jobs", Err(refusal), refused::<()>(30, 0)),
+        Ok(table) => {
+            says(tally, "jobs", table.jobs.len() == count);
+            says(tally, "facts", table.atoms == 1 + stages.count() as u64);
+            says(tally, "the bay alone is open", table.opening == word(&[0]));
+            says(tally, "stages", stages_hold(&table, batches));
+            says(tally, "clearing jobs", clearings_hold(&table, batches));
+            says(tally, "goals", table.goals == word(&last_facts(batches)));
+            says(tally, "one batch each", each_from_one(&table, list));
+        }
+    }
+}
+
+/// The done facts batch by batch: from 1 on, one a stage.
+fn done_facts(batches: &[Stages]) -> Vec<std::ops::Range<u64>> {
+    let mut next = 1;
+    let mut facts = |batch: &Stages| {
+        let first = next;
+        next += batch.len() as u64;
+        first..next
+    };
+    batches.iter().map(|batch| facts(batch)).collect()
+}
+
+fn last_facts(batches: &[Stages]) -> Vec<u64> {
+    done_facts(batches).into_iter().map(|facts| facts.end - 1).collect()
+}
+
+/// The jobs that add a fact.
+fn adders(table: &Expanded, fact: u64) -> Vec<usize> {
+    (0..table.jobs.len()).filter(|&job| table.jobs[job].additions >> fact & 1 == 1).collect()
+}
+
+/// Whether each done fact has one job that adds it, which is its stage, needs the stage before it in its batch and, where
+/// the bay is held, needs and deletes the bay; these jobs stand in the order of their facts, and there are no other facts.
+fn stages_hold(table: &Expanded, batches: &[Stages]) -> bool {
+    let holds = |first: u64, fact: u64, (duration, held): (u16, bool)| {
+        let bay: Vec<u64> = held.then_some(0).into_iter().collect();
+        let before: Vec<u64> = (first..fact).last().into_iter().collect();
+        let wanted = job(&[before, bay.clone()].concat(), &[fact], &bay, duration);
+        matches!(adders(table, fact)[..], [only] if table.jobs[only] == wanted)
+    };
+    let mut batches = batches.iter().zip(done_facts(batches));
+    let all = batches.all(|(stages, facts)| {
+        stages.iter().zip(facts.clone()).all(|(&stage, fact)| holds(facts.start, fact, stage))
+    });
+    let places: Vec<usize> = (1..table.atoms).flat_map(|fact| adders(table, fact)).collect();
+    let used = table.jobs.iter().fold(1, |facts, job| facts | job.conditions | job.additions | job.deletions);
+    all && places.is_sorted() && used == (1 << table.atoms) - 1
+}
+
+/// Whether the jobs that add the bay are just those right behind the stages that hold it: one quarter hour long, needing
+/// that stage done, deleting nothing.
+fn clearings_hold(table: &Expanded, batches: &[Stages]) -> bool {
+    let stages = batches.iter().flatten().zip(1..);
+    let held: Vec<u64> = stages.filter(|((_, held), _)| *held).map(|(_, fact)| fact).collect();
+    let behind: Vec<usize> =
+        held.iter().flat_map(|&fact| adders(table, fact)).map(|stage| stage + 1).collect();
+    let clears =
+        |(&fact, &number): (&u64, &usize)| table.jobs.get(number) == Some(&job(&[fact], &[0], &[], 1));
+    adders(table, 0) == behind && held.iter().zip(&behind).all(clears)
+}
+
+/// Whether the table falls into one piece a batch, each that of its group alone with the done facts moved up.
+fn each_from_one(table: &Expanded, list: &[u8]) -> bool {
+    let (mut jobs, mut facts) = (Vec::new(), 0);
+    for &group in list {
+        let alone = expand(&[group]).expect("one batch is never too large");
+        let moved = |word: u64| word & 1 | (word & !1) << facts;
+        jobs.extend(alone.jobs.iter().map(|job| Job {
+            conditions: moved(job.conditions),
+            additions: moved(job.additions),
+            deletions: moved(job.deletions),
+            ..*job
+        }));
+        facts += alone.atoms - 1;
+    }
+    table.jobs == jobs && table.atoms == 1 + facts
+}
+
+/// The least bounds of the outside problems that are such batches.
+fn test_least_bounds_of_batches(tally: &mut Tally) {
+    let known: [(&[u8], u16); 10] = [
+        (&[], 0),
+        (&[10], 64),
+        (&[11], 96),
+        (&[7, 7], 27),
+        (&[10, 7], 64),
+        (&[1, 7, 7], 27),
+        (&[2, 4, 9], 86),
+        (&[0, 1, 2, 3], 17),
+        (&[7, 7, 7, 7], 35),
+        (&[9, 9, 7, 1], 90),
+    ];
+    for (list, least) in known {
+        let found = least_of(&house(list)).map(|(least, _)| least);
+        tally.same(&format!("least bound of batches {list:?}"), found, Ok(least));
+    }
+}
+
+/// The lowest batch of a group that there is not, wherever it stands and however many batches there are; then more than four.
+fn test_unknown_groups(tally: &mut Tally) {
+    for (place, group) in (0..4).flat_map(|place| (12..=255).map(move |group| (place, group))) {
+        let mut list = [7, 10, 10, 10];
+        list[place] = group;
+        tally.same("unknown group", expand(&list), refused(28, place as u64));
+        let more = [&list[..], &[255]].concat();
+        tally.same("the lowest of two, of five batches", expand(&more), refused(28, place as u64));
+    }
+    for length in 5..70 {
+        tally.same("more than four", expand(&vec![length as u8 % 12; length]), refused(29, 4));
+        for place in [0, 3, 4, length - 1] {
+            let mut list = vec![10; length];
+            list[place] = 12;
+            tally.same("unknown before too many", expand(&list), refused(28, place as u64));
+        }
+    }
+    for (place, told) in [(65_534, 65_534), (65_535, 65_535), (65_536, 65_535), (70_000, 65_535)] {
+        let mut list = vec![0; 70_001];
+        list[place] = 200;
+        tally.same("unknown far behind", expand(&list), refused(28, told));
+    }
+}
+
+/// Records enough, one too few and more than enough, and what is refused before that.
+fn test_records_for_batches(tally: &mut Tally) {
+    let filled = |list: &[u8], length: usize| {
+        let mut lent = vec![all_facts(); length];
+        let result = enter(list, &mut lent).map(|table| table.jobs);
+        let used = result.as_ref().map_or(0, |jobs| jobs.len());
+        as_lent(&lent, used).then_some((result, lent[..used].to_vec()))
+    };
+    for list in [&[][..], &[0], &[7, 7, 1], &[7, 7, 7, 7], &[10, 10, 10], &[9, 9, 9, 1]] {
+        let jobs = expand(list).expect("at most 24 jobs").jobs;
+        for more in [0, 1, 40] {
+            let wanted = Some((Ok(jobs.clone()), jobs.clone()));
+            tally.same("records for batches", filled(list, jobs.len() + more), wanted);
+        }
+        for length in 0..jobs.len() {
+            tally.same("too few records", filled(list, length), Some((refused(3, 0), vec![])));
+        }
+    }
+    for (list, refusal) in [
+        (&[10, 10, 10, 0][..], refused(30, 0)),
+        (&[0; 5], refused(29, 4)),
+        (&[0, 0, 0, 0, 0, 12], refused(28, 5)),
+    ] {
+        for length in [0, 24, 40] {
+            tally.same("before the records", filled(list, length), Some((refusal.clone(), vec![])));
+        }
+    }
+}
+
+/// Whether the records from a place on are as they were lent.
+fn as_lent(lent: &[Job], from: usize) -> bool {
+    lent[from..].iter().all(|job| *job == all_facts())
+}
+
 /// The gap in other words: under rule 2 all is answered as under rule 1 with each job and the bound a quarter hour
 /// longer. The plans are the first ones, some with a job moved, and any at all.
 fn test_gap_as_length(tally: &mut Tally) {
@@ -1870,6 +2079,11 @@ fn call_bytes(head: [u64; 16], records: &[Job], table: &[u8]) -> Vec<u8> {
     bytes
 }
 
+/// Records as an answer has them.
+fn hex_of(records: &[Job]) -> String {
+    records.iter().flat_map(job_bytes).map(|byte| format!("{byte:02x}")).collect()
+}
+
 fn test_calls(tally: &mut Tally) {
     let jobs = jobs_u(&[], 0).jobs;
     let starts = [0, 0, 7, 0, 4, 0, 4, 0];
@@ -1912,11 +2126,19 @@ fn test_calls(tally: &mut Tally) {
         (reasoning[2], reasoning[4], reasoning[5]) = (6, goals, bound);
         stream.extend(call_bytes(reasoning, &jobs, &[]));
     }
+    for (groups, lent) in [(&[1][..], 4), (&[1], 2), (&[0, 12], 0), (&[], 1)] {
+        let mut entering = [9; 16];
+        (entering[0], entering[8], entering[9]) = (17, lent as u64, groups.len() as u64);
+        stream.extend(call_bytes(entering, &vec![own; lent], groups));
+    }
     for (most, bound) in [(0, 12), (1, 12), (96, 12), (97, 12), (65_535, 12), (97, 11)] {
         let mut asking = head(16, 0, 0, 8, 0, 0);
         (asking[5], asking[12]) = (bound, most);
         stream.extend(call_bytes(asking, &jobs, &starts));
     }
+    // The jobs of a batch of group 1.
+    let (stage, washing, clearing) =
+        (job(&[], &[1], &[], 4), job(&[0, 1], &[2], &[0], 3), job(&[2], &[0], &[], 1));
     let mut output = Vec::new();
     let whole = calls::run(&mut std::io::BufReader::new(&stream[..]), &mut output).is_ok();
     let expected = [
@@ -1930,10 +2152,7 @@ fn test_calls(tally: &mut Tally) {
         "3 0 0 0 0101",
         "0 0 0 0 0000040004000400",
         "0 0 0 0 00000400ffffffff",
-        &format!(
-            "2 0 0 0 0 0 0 0 {}",
-            jobs.iter().flat_map(job_bytes).map(|byte| format!("{byte:02x}")).collect::<String>()
-        ),
+        &format!("2 0 0 0 0 0 0 0 {}", hex_of(&jobs)),
         "0 0 0 65",
         "12 2 1 0",
         "2 2",
@@ -1951,6 +2170,10 @@ fn test_calls(tally: &mut Tally) {
         "0 0 0 0 3 64",
         "0 0 0 0 1 5",
         "9 0 0 0 0 64",
+        &format!("0 0 0 1 4 3 3 {}", hex_of(&[stage, washing, clearing, own])),
+        &format!("3 0 0 0 0 0 0 {}", hex_of(&[own, own])),
+        "28 0 1 0 0 0 0 ",
+        &format!("0 0 0 1 0 0 1 {}", hex_of(&[own])),
         "0 0 0 12",
         "0 0 0 15",
         "0 0 0 300",

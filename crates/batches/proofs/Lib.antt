@@ -1,0 +1,5 @@
+pub mod Laws
+pub mod Jobs
+pub mod Calls
+pub mod Whose
+pub mod Only

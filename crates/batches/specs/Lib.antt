@@ -1,0 +1,4 @@
+pub mod Groups
+pub mod Batches
+pub mod Whose
+pub mod Steps
