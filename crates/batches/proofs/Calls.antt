@@ -5,9 +5,9 @@ use mathlib.Core.List.{List}
 use Prim.Native.Nat.{ℕ, _≤_, _<_, min}
 use native.Mathlib.Omega.{arith}
 use native.Mathlib.Decide.{decLt}
-use lib.Dec.{le→leb, lt→ltb, ltb→lt, ltb}
+use lib.Dec.{T, le→leb, lt→ltb, ltb→lt, ltb}
 use lib.ListN.{length, getD}
-use Rattle.facts.specs.Least.{least}
+use Rattle.facts.specs.Least.{least, any}
 use Rattle.facts.proofs.Least.{any-of, found-any, found-none}
 use Rattle.refusals.specs.Refusals.{Verdict, accepted, refused}
 use Rattle.refusals.proofs.Refused.{if-hit, if-pass}
@@ -21,6 +21,13 @@ use Rattle.batches.specs.Steps.{AllKnown, batched, HandedOut}
 
 -- ── the checks, one by one ──
 
+pub no-unknown : (gs : List ℕ) → (T (any (unknown gs) (length gs)) → ⊥) → AllKnown gs
+no-unknown gs none c m = go (decLt (getD gs c 0) 12)
+  where
+    go : Dec (getD gs c 0 < 12) → getD gs c 0 < 12
+    go (yes h) = h
+    go (no h) = absurd (none (any-of (unknown gs) (length gs) c m (le→leb 12 (getD gs c 0) (omega arith))))
+
 module _ (gs : List ℕ) (room : ℕ) {b : ℕ} (e : b ≡ least (unknown gs) (length gs)) where
   pub checks-28 : b < length gs → batchChecks gs room ≡ refused 28 (min b 65535)
   unfolding batchChecks
@@ -28,11 +35,7 @@ module _ (gs : List ℕ) (room : ℕ) {b : ℕ} (e : b ≡ least (unknown gs) (l
 
   module _ (l : length gs ≤ b) where
     pub all-known : AllKnown gs
-    all-known c m = go (decLt (getD gs c 0) 12)
-      where
-        go : Dec (getD gs c 0 < 12) → getD gs c 0 < 12
-        go (yes h) = h
-        go (no h) = absurd (found-none (unknown gs) e l (any-of (unknown gs) (length gs) c m (le→leb 12 (getD gs c 0) (omega arith))))
+    all-known = no-unknown gs (found-none (unknown gs) e l)
 
     pub checks-29 : 4 < length gs → batchChecks gs room ≡ refused 29 4
     unfolding batchChecks

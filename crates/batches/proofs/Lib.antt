@@ -3,3 +3,4 @@ pub mod Jobs
 pub mod Calls
 pub mod Whose
 pub mod Only
+pub mod InOrder

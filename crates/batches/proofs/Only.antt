@@ -16,12 +16,15 @@ use Rattle.facts.proofs.Sets.{same-word}
 use Rattle.refusals.specs.Refusals.{Verdict, accepted, refused, refuseIf}
 use Rattle.refusals.proofs.Refused.{Second, Checks, if-checks, then-checks, if-pass, if-zero, if-other, seconds}
 use Rattle.tables.specs.declared.Action.{Action}
+use Rattle.tables.specs.declared.Answer.{Answer}
 use Rattle.tables.specs.Tables.{filled}
 use Rattle.tables.proofs.Laws.{accepts}
-use Rattle.tables.proofs.Lent.{filled-same}
+use Rattle.tables.proofs.Lent.{filled-none, filled-same}
 use Rattle.batches.specs.declared.BatchAnswer.{BatchAnswer}
 use Rattle.batches.specs.Batches.{jobCount, JobWith, BatchTable, unknown, batchChecks, noTable, Expands, Batches}
 use Rattle.batches.specs.Whose.{JobOf}
+use Rattle.batches.specs.Steps.{AllKnown}
+use Rattle.batches.proofs.Calls.{no-unknown}
 use Rattle.batches.proofs.Whose.{from-one-batch}
 
 -- ── the checks ──
@@ -52,6 +55,13 @@ module _ (gs : List ℕ) (room : ℕ) where
   jobs-fit e =
       let x = if-zero _ 30 0 _ (omega arith) (if-zero _ 29 4 _ (omega arith) (if-zero _ 28 (min (least (unknown gs) (length gs)) 65535) _ (omega arith) e .1) .1) in
       (at-most 24 (jobCount gs) (x .0), at-most room (jobCount gs) (if-zero _ 3 0 accepted (omega arith) (x .1) .0))
+
+  -- and every one of at most 4 batches names a house group
+  pub groups-fit : batchChecks gs room ≡ accepted → AllKnown gs × (length gs ≤ 4)
+  unfolding batchChecks
+  groups-fit e =
+      let x = if-zero _ 28 (min (least (unknown gs) (length gs)) 65535) _ (omega arith) e in
+      (no-unknown gs (x .0), at-most 4 (length gs) (if-zero _ 29 4 _ (omega arith) (x .1) .0))
 
   -- so a caller that lends 24 records is not refused for too few
   pub never-short : 24 ≤ room → batchChecks gs room ≢ refused 3 0
@@ -85,10 +95,20 @@ module _ (gs : List ℕ) {n m a b o p g h : ℕ} {job new : ℕ → Action} (x :
   from k b i (h, inl e) = rw e (same-action _ _ (x .batch b (h .0) .stage i (h .1)) (y .batch b (h .0) .stage i (h .1)))
   from k b i (h, inr (t, e)) = rw e (same-action _ _ (x .batch b (h .0) .clearing i (h .1) t) (y .batch b (h .0) .clearing i (h .1) t))
 
-  pub same-job : (k : ℕ) → k < n → job k ≡ new k
+  same-job : (k : ℕ) → k < n → job k ≡ new k
   same-job k l = let z = from-one-batch gs .job k (omega (arith, x .count)) in from k (z .0) (z .1) (z .2)
 
+  -- nothing of the table is left open
+  pub table-only : (n ≡ m) × (a ≡ b) × (o ≡ p) × (g ≡ h) × ((k : ℕ) → k < n → job k ≡ new k)
+  table-only = (x .count ∙ sym (y .count), x .facts ∙ sym (y .facts), same-word o p (λ q. x .bay q ∙ sym (y .bay q)), same-word g h (λ q. x .last q ∙ sym (y .last q)), same-job)
+
 -- ── the call ──
+
+-- a refusal changes no record
+pub refused-old : (gs : List ℕ) (old new : List Action) (r : BatchAnswer) → Batches gs old new r → (r .answer .number ≡ 0 → ⊥) → new ≡ old
+refused-old gs old new r x n =
+    let none = x .expands .none (λ e. n (ap (λ (a : Answer). a .number) (x .expands .says) ∙ ap (λ (v : Verdict). v .number) e)) in
+    x .records ∙ (ap (λ (k : ℕ). filled (x .job) k old) (ap (λ (a : BatchAnswer). a .jobs) none) ∙ sym (filled-none (x .job) old))
 
 module _ (gs : List ℕ) (old new new′ : List Action) (r s : BatchAnswer) (x : Batches gs old new r) (y : Batches gs old new′ s) where
   pub batches-only : (r ≡ s) × (new ≡ new′)
@@ -103,17 +123,8 @@ module _ (gs : List ℕ) (old new new′ : List Action) (r s : BatchAnswer) (x :
 
       go : Dec (batchChecks gs (length old) .number ≡ 0) → (r ≡ s) × (new ≡ new′)
       go (yes z) =
-          let t = x .expands .table (checks-accept gs (length old) z) in
-          let u = y .expands .table (checks-accept gs (length old) z) in (
-            λ j. record {
-              answer = answers j;
-              jobs = (t .count ∙ sym (u .count)) j;
-              atoms = (t .facts ∙ sym (u .facts)) j;
-              opening = same-word (r .opening) (s .opening) (λ p. t .bay p ∙ sym (u .bay p)) j;
-              goals = same-word (r .goals) (s .goals) (λ p. t .last p ∙ sym (u .last p)) j;
-            },
-            laid (r .jobs) refl (u .count ∙ sym (t .count)) (same-job gs t u),
-          )
+          let e = table-only gs (x .expands .table (checks-accept gs (length old) z)) (y .expands .table (checks-accept gs (length old) z)) in
+          (λ j. record { answer = answers j; jobs = e .0 j; atoms = e .1 j; opening = e .2 j; goals = e .3 j }, laid (r .jobs) refl (sym (e .0)) (e .4))
       go (no n) =
           let no-r = x .expands .none (λ e. n (ap (λ (v : Verdict). v .number) e)) in
           let no-s = y .expands .none (λ e. n (ap (λ (v : Verdict). v .number) e)) in

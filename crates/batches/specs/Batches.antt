@@ -6,8 +6,8 @@ use mathlib.Core.List.{List, []}
 use Prim.Native.Nat.{ℕ, suc, _+_, _-_, _<_, min}
 use lib.Dec.{T, eqb, leb, ltb}
 use lib.ListN.{length, getD}
+use Rattle.facts.specs.Facts.{has}
 use Rattle.facts.specs.Least.{least, any}
-use Rattle.facts.specs.Words.{Word}
 use Rattle.refusals.specs.Refusals.{Verdict, accepted, refuseIf}
 use Rattle.rules.specs.Sums.{sum}
 use Rattle.tables.specs.declared.Action.{Action}
@@ -59,9 +59,9 @@ jobCount gs = firstJob gs (length gs)
 
 -- a job that needs, adds and deletes the facts that pass these tests, lasts so long and may start at once
 pub record JobWith (needs adds deletes : ℕ → Bool) (duration : ℕ) (a : Action) : Type 0 where
-  pub needed : Word needs (a .conditions)
-  pub added : Word adds (a .additions)
-  pub deleted : Word deletes (a .deletions)
+  pub needed : (p : ℕ) → has (a .conditions) p ≡ needs p
+  pub added : (p : ℕ) → has (a .additions) p ≡ adds p
+  pub deleted : (p : ℕ) → has (a .deletions) p ≡ deletes p
   pub lasts : a .duration ≡ duration
   pub free : a .release ≡ 0
 
@@ -83,8 +83,8 @@ pub record Stages (ss : List Stage) (n at first : ℕ) (job : ℕ → Action) : 
 pub record BatchTable (gs : List ℕ) (jobs atoms opening goals : ℕ) (job : ℕ → Action) : Type 0 where
   pub count : jobs ≡ jobCount gs
   pub facts : atoms ≡ firstDone gs (length gs)
-  pub bay : Word (λ p. eqb p 0) opening
-  pub last : Word (λ p. any (λ b. eqb p (lastDone gs b)) (length gs)) goals
+  pub bay : (p : ℕ) → has opening p ≡ eqb p 0
+  pub last : (p : ℕ) → has goals p ≡ any (λ b. eqb p (lastDone gs b)) (length gs)
   pub batch : (b : ℕ) → b < length gs → Stages (batchStages gs b) (length (batchStages gs b)) (firstJob gs b) (firstDone gs b) job
 
 -- ── the call ──

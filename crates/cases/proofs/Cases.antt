@@ -15,15 +15,19 @@ use Rattle.rules.specs.Pairs.{isJob as supporting, feeds, binds, joined, pairIf
 use Rattle.rules.specs.Estimates.{plus, cheapest, cost, condition, dearest}
 use Rattle.rules.specs.Reasons.{released, pushed, hindranceOf}
 use Rattle.rules.specs.Lateness.{overrunCheck}
+use Rattle.rules.specs.Sums.{sum}
 use Rattle.rules.proofs.Late.{greatestOf}
 use Rattle.tenths.specs.Tenths.{inRange, tenths}
 use Rattle.tenths.specs.Rounding.{float}
 use Rattle.tables.specs.Tables.{unmarked}
+use Rattle.batches.specs.Groups.{houseGroups}
+use Rattle.batches.specs.Batches.{batchChecks}
 use Rattle.cases.specs.Jobs.{facts}
 use Rattle.cases.specs.Claims.{AllHold}
 use Rattle.cases.specs.Cases.{out, cases}
 use Rattle.cases.proofs.Refute.{some, every, addIf, collect, include, dueIf, exclude, ahead, behind, isJob, atLeast, chain, broken, wants, guards, step, refute, hopeless}
 use Rattle.cases.proofs.Firsts.{sooner, dueBefore, noneBefore}
+use Rattle.cases.proofs.Batched.{makes-two, makes-none}
 use Rattle.cases.proofs.Shown.{plans-ok, none-ok, least-ok, judged-ok, touch-ok, tenths-ok, all, solves, estimates-ok, stands, keeps, settles, explains-ok, hinders-ok, finishes-ok, takes-ok, refuses-ok}
 
 -- one case, and all that follow
@@ -32,7 +36,7 @@ _also_ : {A B : Type 0} → A → B → A × B
 a also b = (a, b)
 
 pub all-hold : AllHold cases
-unfolding _also_ cases unmarked blocks startFits jobFits name named supporting feeds binds joined pairIf pairBytes facts has after least further any refuseIf refuseAt refuseFor between strays jobStrays undoes jobChecks tableChecks boundCheck inPlan spoils clashOf interfere ends afterIf finishes holds late early overlap clashes clashFact unready missing planChecks inRange tenths float some every addIf collect include dueIf exclude ahead behind isJob atLeast chain broken wants guards step refute hopeless sooner dueBefore noneBefore all solves plus cheapest cost condition dearest stands keeps settles hindranceOf greatestOf overrunCheck
+unfolding _also_ cases unmarked blocks startFits jobFits name named supporting feeds binds joined pairIf pairBytes facts has after least further any refuseIf refuseAt refuseFor between strays jobStrays undoes jobChecks tableChecks boundCheck inPlan spoils clashOf interfere ends afterIf finishes holds late early overlap clashes clashFact unready missing planChecks inRange tenths float some every addIf collect include dueIf exclude ahead behind isJob atLeast chain broken wants guards step refute hopeless sooner dueBefore noneBefore all solves plus cheapest cost condition dearest stands keeps settles hindranceOf greatestOf overrunCheck sum houseGroups batchChecks
 all-hold =
     -- P1
     plans-ok refl refl tt
@@ -108,6 +112,15 @@ all-hold =
     also finishes-ok (starts (0 ∷ 7 ∷ 4 ∷ 4 ∷ [])) (starts (0 ∷ 2 ∷ 1 ∷ 1 ∷ [])) refl refl tt tt (omega arith)
     also finishes-ok (starts (0 ∷ out ∷ out ∷ out ∷ [])) (starts (0 ∷ out ∷ out ∷ out ∷ [])) refl refl tt tt (omega arith)
     also finishes-ok (starts (out ∷ out ∷ out ∷ out ∷ [])) (starts (out ∷ out ∷ out ∷ out ∷ [])) refl refl tt tt (omega arith)
+    also refl
+    also refl
+    -- Thirteen
+    also makes-two
+    also makes-none
+    also refl
+    also refl
+    also refl
+    also refl
     also refl
     also refl
     also tt

@@ -8,7 +8,7 @@ use Rattle.rules.specs.declared.Hindrance.the-variants.{Never, TooDear, Neither
 use Rattle.rules.specs.Table.{Problem}
 use Rattle.tenths.specs.Rounding.{float}
 use Rattle.cases.specs.Jobs.{action, problemOf, lasting, landing}
-use Rattle.cases.specs.Claims.{Claim, plans, noPlan, least, touching, offered, clashing, binding, tenths, estimates, explains, hinders, finishes, overruns, takes, refuses}
+use Rattle.cases.specs.Claims.{Claim, plans, noPlan, least, touching, offered, clashing, binding, tenths, estimates, explains, hinders, finishes, overruns, makes, entered, takes, refuses}
 use Rattle.tables.specs.declared.Action.{Action}
 
 -- ── jobs U ──
@@ -195,4 +195,16 @@ cases =
     -- Twelve: 96 quarter hours are taken, 97 refused with 34
     ∷ overruns 96 accepted
     ∷ overruns 97 (refused 34 0)
+    -- Thirteen: a batch of group 1 and one of group 0: a stage, a stage that holds the bay, its clearing job, and the other batch's stage
+    ∷ makes (1 ∷ 0 ∷ []) (action [] (1 ∷ []) [] 4 ∷ action (1 ∷ 0 ∷ []) (2 ∷ []) (0 ∷ []) 3 ∷ action (2 ∷ []) (0 ∷ []) [] 1 ∷ action [] (3 ∷ []) [] 4 ∷ []) 4 (3 ∷ 2 ∷ [])
+    -- Thirteen: no batches
+    ∷ makes [] [] 1 []
+    -- Thirteen: four of group 7 have 24 jobs and are taken with a record for each, 10 10 10 1 have more and are refused with 30
+    ∷ entered (7 ∷ 7 ∷ 7 ∷ 7 ∷ []) 24 accepted
+    ∷ entered (7 ∷ 7 ∷ 7 ∷ 7 ∷ []) 23 (refused 3 0)
+    ∷ entered (10 ∷ 10 ∷ 10 ∷ 1 ∷ []) 0 (refused 30 0)
+    -- Thirteen: five batches are refused with 29, with an unknown group among them, also as the fifth, with 28
+    ∷ entered (0 ∷ 0 ∷ 0 ∷ 0 ∷ 0 ∷ []) 0 (refused 29 4)
+    ∷ entered (0 ∷ 0 ∷ 0 ∷ 0 ∷ 12 ∷ []) 0 (refused 28 4)
+    ∷ entered (10 ∷ 255 ∷ 12 ∷ 10 ∷ []) 0 (refused 28 1)
     ∷ []

@@ -20,8 +20,11 @@ use Rattle.rules.specs.declared.Hindrance.{Hindrance}
 use Rattle.rules.specs.Reasons.{Chain, Explained, hindranceOf}
 use Rattle.rules.specs.Lateness.{LatestFinish, overrunCheck}
 use Rattle.rules.specs.Order.{First, LeastBound, NoPlan, Planned, Bounded}
+use Rattle.tables.specs.declared.Action.{Action}
+use Rattle.tables.specs.Tables.{recordAt}
 use Rattle.times.specs.Times.{pairFirst, pairSecond}
 use Rattle.tenths.specs.Tenths.{inRange, AreTenths}
+use Rattle.batches.specs.Batches.{BatchTable, batchChecks}
 use Rattle.cases.specs.Jobs.{facts}
 
 -- the kinds of claim
@@ -52,6 +55,10 @@ pub data Claim : Type 0 where
   finishes : Problem → (bound : ℕ) → (starts : List ℕ) → (k latest : ℕ) → Claim
   -- of an overrun of k this is said
   overruns : (k : ℕ) → Verdict → Claim
+  -- batches of these groups make exactly this table
+  makes : (groups : List ℕ) → (jobs : List Action) → (atoms : ℕ) → (goals : List ℕ) → Claim
+  -- of batches of these groups this is said to a caller that lends so many records
+  entered : (groups : List ℕ) → (room : ℕ) → Verdict → Claim
   -- checks 4 to 9 and 20 take the table and the bound
   takes : Problem → (bound : ℕ) → Claim
   -- checks 4 to 9 and 20 refuse the table or the bound with this number and place
@@ -136,6 +143,12 @@ pub record FinishesAt (P : Problem) (bound : ℕ) (s : Plan) (k t : ℕ) : Type 
   pub latest : LatestFinish P bound s k t
   pub only : (u : ℕ) → LatestFinish P bound s k u → u ≡ t
 
+-- the batches make a table with these jobs and numbers, open {0}, and none with others
+pub record MakesTable (gs : List ℕ) (jobs : List Action) (atoms : ℕ) (goals : List ℕ) : Type 0 where
+  pub table : BatchTable gs (length jobs) atoms (facts (0 ∷ [])) (facts goals) (recordAt jobs)
+  pub only : (n a o g : ℕ) (job : ℕ → Action) → BatchTable gs n a o g job
+      → (n ≡ length jobs) × (a ≡ atoms) × (o ≡ facts (0 ∷ [])) × (g ≡ facts goals) × ((k : ℕ) → k < n → job k ≡ recordAt jobs k)
+
 -- what a case claims of the rules
 abbrev pub IsSo : Claim → Type 0
 IsSo (plans P bound l) = Plans P bound (starts l)
@@ -151,6 +164,8 @@ IsSo (explains P set pairs bound j l m) = ExplainedBy P (asking P set pairs boun
 IsSo (hinders P bound h) = HinderedBy P bound h
 IsSo (finishes P bound l k t) = FinishesAt P bound (starts l) k t
 IsSo (overruns k v) = overrunCheck k accepted ≡ v
+IsSo (makes gs jobs atoms goals) = MakesTable gs jobs atoms goals
+IsSo (entered gs room v) = batchChecks gs room ≡ v
 IsSo (takes P bound) = Taken P bound
 IsSo (refuses P bound number place) = RefusedWith P bound number place
 

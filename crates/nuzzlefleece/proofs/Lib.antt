@@ -10,4 +10,5 @@ pub mod Only
 pub mod Seconds
 pub mod Back
 pub mod AsRead
+pub mod Entered
 pub mod Tidied

@@ -9,9 +9,9 @@ use native.Mathlib.Numerals.{add-one}
 use lib.Dec.{T}
 use Rattle.rules.specs.Table.{Problem}
 use Rattle.rules.specs.Plans.{Plan, Valid}
-use Rattle.rules.specs.Premises.{enoughTime}
+use Rattle.rules.specs.Premises.{enoughTime, most}
 use Rattle.rules.specs.Order.{First, LeastBound, NoPlan}
-use Rattle.rules.specs.Sums.{sum, most}
+use Rattle.rules.specs.Sums.{sum}
 use Rattle.tables.specs.Tables.{jobAt, problem}
 use Rattle.tables.specs.declared.Loaded.{Loaded}
 use Rattle.tables.specs.declared.Ask.{Ask}

@@ -2,8 +2,8 @@
 ghost use mathlib.Core.Path.{_≡_};
 ghost use Prim.Native.Nat.{_+_, _≤_, min};
 ghost use Rattle.rules.specs.Table.{Problem};
-ghost use Rattle.rules.specs.Premises.{enoughTime};
-ghost use Rattle.rules.specs.Sums.{sum, most};
+ghost use Rattle.rules.specs.Premises.{enoughTime, most};
+ghost use Rattle.rules.specs.Sums.{sum};
 ghost use Rattle.tables.specs.Tables.{jobAt, problem};
 ghost use Rattle.lent.specs.Lent.{Listed};
 ghost use Rattle.bounds.specs.Bounds.{Served, SomeAt};

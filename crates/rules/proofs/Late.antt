@@ -11,13 +11,13 @@ use native.Mathlib.Decide.{decLe}
 use lib.Dec.{T}
 use Rattle.facts.proofs.Bools.{T?, or-at, not-eqb, eqb-not}
 use Rattle.rules.specs.Table.{Problem}
-use Rattle.rules.specs.Premises.{InOrder}
+use Rattle.rules.specs.Premises.{InOrder, most}
 use Rattle.rules.specs.Plans.{Plan, inPlan, In, finish, Valid}
 use Rattle.rules.specs.Pairs.{binds}
 use Rattle.rules.specs.Settling.{Asked, Obeys, Settled}
 use Rattle.rules.specs.Lateness.{IsGreatest, SettledFinish, bindingPairs, BindingChain, lone, longer, LatestFinish}
 use Rattle.rules.specs.Runs.{DueAt, Run, FinishedBy, RunsBy}
-use Rattle.rules.specs.Sums.{sum, most}
+use Rattle.rules.specs.Sums.{sum}
 use Rattle.rules.proofs.Named.{binds-at}
 use Rattle.rules.proofs.Retimed.{redo, retimed}
 use Rattle.rules.proofs.Sums.{sum-of, most-ge, cond-yes, cond-no, chain-end}

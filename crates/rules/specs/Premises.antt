@@ -1,12 +1,12 @@
 -- What the laws of the rules ask of a table, and the words they are said in.
 -- Assumes nothing.
-use Prim.Native.Nat.{ℕ, _≤_, _<_, _+_}
+use Prim.Native.Nat.{ℕ, zero, suc, _≤_, _<_, _+_, max}
 use lib.Dec.{T}
 use Rattle.facts.specs.Facts.{has}
 use Rattle.rules.specs.Table.{Problem}
 use Rattle.rules.specs.Plans.{Plan, In, finish}
 use Rattle.rules.specs.Supports.{Consumer}
-use Rattle.rules.specs.Sums.{sum, most}
+use Rattle.rules.specs.Sums.{sum}
 use mathlib.Core.Logic.{_⊎_, _≢_}
 
 -- job i adds p
@@ -41,6 +41,11 @@ pub record ByJob (P : Problem) (s : Plan) (p : ℕ) (c : Consumer) (a : ℕ) : T
   pub gives : adds P a p
   pub before : finish P s a + c .lag ≤ c .at
   pub clear : Clear P s p c (P .gap) (s a)
+
+-- the greatest of f 0, .., f (n - 1), 0 for none
+unfoldable pub most : (ℕ → ℕ) → ℕ → ℕ
+most f zero = 0
+most f (suc k) = max (f k) (most f k)
 
 -- the time that is always enough: the latest release, and every duration with its gap
 abbrev pub enoughTime : Problem → ℕ

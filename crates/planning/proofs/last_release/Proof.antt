@@ -3,7 +3,7 @@ use native.Mathlib.Omega.{arith}
 use Prim.Native.Nat.{_-_, _≤_, max}
 use mathlib.Core.Path.{_≡_, refl, ap, _∙_}
 use Rattle.tables.specs.Tables.{jobAt}
-use Rattle.rules.specs.Sums.{most}
+use Rattle.rules.specs.Premises.{most}
 use Rattle.planning.proofs.Laws.{most-next}
 use Rattle.planning.proofs.last_release.Statement.{statement}
 use Rattle.planning.proofs.last_release.Tie as tie
