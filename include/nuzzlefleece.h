@@ -386,13 +386,14 @@ nuzzlefleece_answer nuzzlefleece_why_start(const nuzzlefleece_action *records, s
 nuzzlefleece_reason nuzzlefleece_why_no_plan(const nuzzlefleece_action *records, size_t lent, nuzzlefleece_ask ask);
 
 /*
- * Expands batches, each given by its house group, into a job table: fills one record a job, batch by batch and stage by stage, each clearing job
- * right behind its stage. Fact 0 is the wash bay; the done facts of the stages follow from 1 on, by batch, then stage. A stage needs the done
- * fact of the stage before it in its batch, a first stage none, and adds its own; one that holds the bay needs fact 0 too and deletes it. A
- * clearing job is one quarter hour long, needs that stage's done fact and adds fact 0. Every release is 0. No bound comes out: jobs, atoms,
- * opening facts and goals go into a nuzzlefleece_ask, by either rule, and the caller sets its bound. Without batches there are no jobs and no
- * goals, and the bay is the one fact. 24 records lent are always enough. Refusals 28, for which all batches are looked at, 29 and 30,
- * then 3.
+ * Expands batches, each given by its house group, into a job table: fills one record a job, batch by batch and stage by stage, each clearing
+ * job right behind its stage. The stages of groups 0 to 11 in quarter hours, b where the wash bay is held: 4; 4 3b; 6 3b 8; 4 12; 8 3b 16;
+ * 4 3b 8 24; 12; 6 2b 12 3b; 4 8 16 32; 8 3b 24 3b 48; 4 2b 8 2b 16 32; 96. Fact 0 is the wash bay; the done facts of the stages follow from 1
+ * on, by batch, then stage. A stage needs the done fact of the stage before it in its batch, a first stage none, and adds its own; one that
+ * holds the bay needs fact 0 too and deletes it. A clearing job is one quarter hour long, needs that stage's done fact and adds fact 0. Every
+ * release is 0. No bound comes out: jobs, atoms, opening facts and goals go into a nuzzlefleece_ask, by either rule, and the caller sets its
+ * bound; no call refuses such a table with 4 to 8 or 20. Without batches there are no jobs and no goals, and the bay is the one fact. 24 records
+ * lent are always enough. Refusals 28, for which all batches are looked at, 29 and 30, then 3.
  */
 nuzzlefleece_batch_answer nuzzlefleece_batches(const uint8_t *groups, size_t batches, nuzzlefleece_action *records, size_t lent);
 

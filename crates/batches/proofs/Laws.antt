@@ -15,7 +15,7 @@ use Rattle.facts.proofs.Bools.{chosen, and-l, and-r, or-at}
 use Rattle.rules.specs.Sums.{sum}
 use Rattle.rules.proofs.Sums.{sum-le, sum-of}
 use Rattle.batches.specs.declared.Stage.{Stage}
-use Rattle.batches.specs.Groups.{benchStage, houseGroups}
+use Rattle.batches.specs.Groups.{benchStage, bayStage, houseGroups}
 use Rattle.batches.specs.Batches.{groupStages, batchStages, stageAt, jobsFor, jobsUpTo, firstJob, firstDone}
 use Rattle.batches.specs.Steps.{AllKnown}
 
@@ -75,6 +75,13 @@ stage-past [] i l = refl
 stage-past (s ∷ ss) zero l = absurd (omega arith)
 stage-past (s ∷ ss) (suc i) l = stage-past ss i (omega arith)
 
+short : (ss : List Stage) → Fair ss → (i : ℕ) → stageAt ss i .duration ≤ 960
+short ss f i = go (decLt i (length ss))
+  where
+    go : Dec (i < length ss) → stageAt ss i .duration ≤ 960
+    go (yes l) = f .long i l .1
+    go (no n) = let e : stageAt ss i .duration ≡ 0 = ap (λ (s : Stage). s .duration) (stage-past ss i (omega arith)) in omega arith
+
 -- the first stage of no length is one behind the last
 module _ (ss : List Stage) (f : Fair ss) (i : ℕ) (l : i ≤ length ss) where
   pub ends-here : stageAt ss i .duration ≡ 0 → i ≡ length ss
@@ -84,6 +91,24 @@ module _ (ss : List Stage) (f : Fair ss) (i : ℕ) (l : i ≤ length ss) where
   goes-on n = ⊎-elim (λ m. m) (λ h. absurd (n (ap (λ (s : Stage). s .duration) (stage-past ss i (omega arith))))) (or-at i (length ss) l)
 
 -- ── the groups as the code holds them: a row of six cells a group ──
+
+-- a stage as one number: 1,000 more where it holds the bay
+abbrev pub cellOf : Stage → ℕ
+cellOf s = cond (s .bay) (1000 + s .duration) (s .duration)
+
+cell-low : (s : Stage) → cellOf s < 1000 → benchStage (cellOf s) ≡ s
+cell-low s l = go (s .duration) (s .bay) l
+  where
+    go : (d : ℕ) (b : Bool) → cond b (1000 + d) d < 1000 → benchStage (cond b (1000 + d) d) ≡ record { duration = d; bay = b }
+    go d true m = absurd (omega arith)
+    go d false m = refl
+
+cell-high : (s : Stage) → s .duration ≤ 960 → 1000 ≤ cellOf s → bayStage (cellOf s - 1000) ≡ s
+cell-high s h l = go (s .duration) (s .bay) h l
+  where
+    go : (d : ℕ) (b : Bool) → d ≤ 960 → 1000 ≤ cond b (1000 + d) d → bayStage (cond b (1000 + d) d - 1000) ≡ record { duration = d; bay = b }
+    go d true k m = let e : 1000 + d - 1000 ≡ d = omega arith in ap bayStage e
+    go d false k m = absurd (omega arith)
 
 unfoldable pub row : {A : Type 0} → ℕ → (Stage → A) → List Stage → List A
 row zero f ss = []
@@ -102,11 +127,25 @@ row-at (suc n) f [] (suc i) d l = row-at n f [] i d (omega arith)
 row-at (suc n) f (s ∷ ss) zero d l = refl
 row-at (suc n) f (s ∷ ss) (suc i) d l = row-at n f ss i d (omega arith)
 
-pub rows-at : {A : Type 0} (f : Stage → A) (gs : List (List Stage)) (g i : ℕ) (d : A) → g < length gs → i < 6 → getD (getD (rows f gs) g []) i d ≡ f (stageAt (getD gs g []) i)
+rows-at : {A : Type 0} (f : Stage → A) (gs : List (List Stage)) (g i : ℕ) (d : A) → g < length gs → i < 6 → getD (getD (rows f gs) g []) i d ≡ f (stageAt (getD gs g []) i)
 unfolding rows
 rows-at f [] g i d l m = absurd (omega arith)
 rows-at f (ss ∷ gs) zero i d l m = row-at 6 f ss i d m
 rows-at f (ss ∷ gs) (suc g) i d l m = rows-at f gs g i d (omega arith) m
+
+-- what a cell says of its stage
+module _ (g i : ℕ) (l : g < 12) (m : i < 6) where
+  abbrev cell : ℕ
+  cell = getD (getD (rows cellOf houseGroups) g []) i 0
+
+  here : cell ≡ cellOf (stageAt (groupStages g) i)
+  here = rows-at cellOf houseGroups g i 0 (known-group g l) m
+
+  pub bench-cell : cell < 1000 → benchStage cell ≡ stageAt (groupStages g) i
+  bench-cell h = ap benchStage here ∙ cell-low (stageAt (groupStages g) i) (omega (arith, here))
+
+  pub bay-cell : 1000 ≤ cell → bayStage (cell - 1000) ≡ stageAt (groupStages g) i
+  bay-cell h = ap (λ (n : ℕ). bayStage (n - 1000)) here ∙ cell-high (stageAt (groupStages g) i) (short (groupStages g) (group-fair g l) i) (omega (arith, here))
 
 -- ── sums ──
 

@@ -18,36 +18,23 @@ pub struct Stage {
     pub bay: bool,
 }
 
-// The durations of the stages, group by group; 0 behind the last stage.
-const DURATIONS: [[u16; 6]; 12] = [
-    [4, 0, 0, 0, 0, 0],
-    [4, 3, 0, 0, 0, 0],
-    [6, 3, 8, 0, 0, 0],
-    [4, 12, 0, 0, 0, 0],
-    [8, 3, 16, 0, 0, 0],
-    [4, 3, 8, 24, 0, 0],
-    [12, 0, 0, 0, 0, 0],
-    [6, 2, 12, 3, 0, 0],
-    [4, 8, 16, 32, 0, 0],
-    [8, 3, 24, 3, 48, 0],
-    [4, 2, 8, 2, 16, 32],
-    [96, 0, 0, 0, 0, 0],
-];
+// Added to the duration of a stage that holds the bay.
+const BAY: u16 = 1000;
 
-// Whether they hold the bay.
-const HOLDS: [[bool; 6]; 12] = [
-    [false, false, false, false, false, false],
-    [false, true, false, false, false, false],
-    [false, true, false, false, false, false],
-    [false, false, false, false, false, false],
-    [false, true, false, false, false, false],
-    [false, true, false, false, false, false],
-    [false, false, false, false, false, false],
-    [false, true, false, true, false, false],
-    [false, false, false, false, false, false],
-    [false, true, false, true, false, false],
-    [false, true, false, true, false, false],
-    [false, false, false, false, false, false],
+// The house groups, a row of stages each; 0 behind the last stage.
+const GROUPS: [[u16; 6]; 12] = [
+    [4, 0, 0, 0, 0, 0],
+    [4, BAY + 3, 0, 0, 0, 0],
+    [6, BAY + 3, 8, 0, 0, 0],
+    [4, 12, 0, 0, 0, 0],
+    [8, BAY + 3, 16, 0, 0, 0],
+    [4, BAY + 3, 8, 24, 0, 0],
+    [12, 0, 0, 0, 0, 0],
+    [6, BAY + 2, 12, BAY + 3, 0, 0],
+    [4, 8, 16, 32, 0, 0],
+    [8, BAY + 3, 24, BAY + 3, 48, 0],
+    [4, BAY + 2, 8, BAY + 2, 16, 32],
+    [96, 0, 0, 0, 0, 0],
 ];
 
 // Stage i of a group.
@@ -55,9 +42,17 @@ fn stage_of(group: usize, i: usize) -> Stage
     requires { ⌜ (group < 12) × (i < 6) ⌝ }
     ensures { λ r. ⌜ r ≡ stageAt (groupStages group) i ⌝ }
 {
-    let duration = DURATIONS[group][i];
-    let bay = HOLDS[group][i];
-    Stage { duration, bay }
+    let cell = GROUPS[group][i];
+    if cell < BAY {
+        return Stage {
+            duration: cell,
+            bay: false,
+        };
+    }
+    Stage {
+        duration: cell - BAY,
+        bay: true,
+    }
 }
 
 // How many stages a group has.
