@@ -237,8 +237,22 @@ def expand(words, tool=TOOL, **options):
     return done.returncode, done.stdout.decode(), done.stderr.decode()
 
 
+def group_text(group):
+    """A house group as the header writes it: the durations of its stages, b where one holds the bay."""
+    _, text, _ = expand([str(group), '--bound', '2880'])
+    return ' '.join(duration + 'b' * bool(held) for duration, held in re.findall(r'^job \w+ (\d+):.*?( - bay)?$', text, re.M))
+
+
+def header_groups():
+    """The house groups as the header lists them."""
+    with open(os.path.join(ROOT, 'include/nuzzlefleece.h'), encoding='utf-8') as header:
+        text = re.sub(r'\s+', ' ', header.read().replace('\n *', ' '))
+    return re.search(r'b where the wash bay is held: ([^.]*)\.', text)[1]
+
+
 def batch_cases():
-    """Texts known and texts made into files, the bound anywhere and over 2,880, and refusals."""
+    """The groups of the header, texts known and texts made into files, the bound anywhere and over 2,880, and refusals."""
+    yield "the header's house groups", header_groups() == '; '.join(map(group_text, range(12)))
     for groups, bound, text in BATCHES:
         yield f'batches {groups!r}', expand([*groups.split(), '--bound', str(bound)]) == (0, text, '')
     for groups in MADE:
