@@ -1,29 +1,22 @@
 -- A pair binds one way only, so n jobs have at most n (n - 1) / 2 binding pairs, and 552 bytes serve 24 jobs.
 -- Assumes nothing.
-use mathlib.Core.Path.{_≡_, refl, sym, ap, _∙_, subst, fun-ext}
-use mathlib.Core.Logic.{_⊎_, inl, inr}
+use mathlib.Core.Path.{_≡_, refl, sym, subst}
 use mathlib.Core.Bool.{Bool, true, false}
-use mathlib.Core.List.{List, _++_}
 use Prim.Native.Nat.{ℕ, zero, suc, _+_, _*_, _≤_, _<_}
 use native.Mathlib.Nat.{mul-suc, suc-mul, mul-le-mul-right}
 use native.Mathlib.Omega.{arith}
 use lib.Dec.{T}
-use lib.ListN.{length, length-append}
-use Rattle.facts.proofs.Bools.{or-at}
+use lib.ListN.{length}
 use Rattle.rules.specs.Table.{Problem}
 use Rattle.rules.specs.Premises.{InOrder}
 use Rattle.rules.specs.Plans.{Plan}
-use Rattle.rules.specs.Pairs.{binds, joined, pairIf, pairBytes}
-use Rattle.rules.proofs.Sums.{sum-le, sum-of}
+use Rattle.rules.specs.Pairs.{binds, pairIf, pairBytes}
+use Rattle.rules.proofs.Sums.{sum-le, sum-of, sum-add}
+use Rattle.rules.proofs.Joined.{length-in-rows}
 use Rattle.rules.specs.Sums.{sum}
 use Rattle.rules.proofs.Named.{binds-once}
 
 -- ── sums ──
-
-pub sum-add : (f g : ℕ → ℕ) (n : ℕ) → sum (λ i. f i + g i) n ≡ sum f n + sum g n
-unfolding sum
-sum-add f g zero = refl
-sum-add f g (suc k) = omega (arith, sum-add f g k)
 
 -- what stands in a square of n by n places, where two places that mirror each other hold 2 at most, and those in the middle nothing
 square : (t : ℕ → ℕ → ℕ) (n : ℕ) → ((a b : ℕ) → a < n → b < n → t a b + t b a ≤ 2) → ((a : ℕ) → a < n → t a a ≡ 0) → sum (λ a. sum (t a) n) n + n ≤ n * n
@@ -33,23 +26,6 @@ square t (suc k) once self =
     let inner : sum (λ a. sum (t a) k) k + k ≤ k * k = square t k (λ a b l m. once a b (omega arith) (omega arith)) (λ a l. self a (omega arith)) in
     let edge : sum (λ a. t k a + t a k) k ≤ sum (λ a. 2) k = sum-le (λ a. t k a + t a k) (λ a. 2) k (λ a l. once k a (omega arith) (omega arith)) in
     omega (arith, self k (omega arith), sum-add (λ a. t a k) (λ a. sum (t a) k) k, sum-add (t k) (λ a. t a k) k, sum-of 2 k, suc-mul k (suc k), mul-suc k k)
-
--- ── lists ──
-
-pub length-in-order : (f : ℕ → List ℕ) (n : ℕ) → length (joined f n) ≡ sum (λ i. length (f i)) n
-unfolding joined sum
-length-in-order f zero = refl
-length-in-order f (suc k) = length-append (joined f k) (f k) ∙ omega (arith, length-in-order f k)
-
--- a longer part of the list is not shorter
-pub in-order-mono : (f : ℕ → List ℕ) (k n : ℕ) → k ≤ n → length (joined f k) ≤ length (joined f n)
-unfolding joined
-in-order-mono f k zero l = let e : k ≡ 0 = omega arith in rw e (omega arith)
-in-order-mono f k (suc n) l = go (or-at k (suc n) l) (λ m. in-order-mono f k n m)
-  where
-    go : (k < suc n) ⊎ (k ≡ suc n) → (k ≤ n → length (joined f k) ≤ length (joined f n)) → length (joined f k) ≤ length (joined f n ++ f n)
-    go (inl m) r = omega (arith, r (omega arith), length-append (joined f n) (f n))
-    go (inr e) r = rw e (omega arith)
 
 -- ── pairs ──
 
@@ -69,10 +45,7 @@ no-self false x y h = refl
 pub pairs-most : (P : Problem) (s : Plan) → InOrder P → length (pairBytes P s) + P .count ≤ P .count * P .count
 unfolding pairBytes
 pairs-most P s ok =
-    let bytes : length (pairBytes P s) ≡ sum (λ a. sum (λ b. length (pairIf (binds P s a b) a b)) (P .count)) (P .count) =
-    length-in-order (λ a. joined (λ b. pairIf (binds P s a b) a b) (P .count)) (P .count)
-    ∙ ap (λ (f : ℕ → ℕ). sum f (P .count)) (fun-ext (λ a. length-in-order (λ b. pairIf (binds P s a b) a b) (P .count))) in
-    rw bytes
+    rw (length-in-rows (λ a b. pairIf (binds P s a b) a b) (P .count) (P .count))
     (square (λ a b. length (pairIf (binds P s a b) a b)) (P .count) (λ a b l m. one-way (binds P s a b) (binds P s b a) a b b a (binds-once P s ok a b l m))
     (λ a l. no-self (binds P s a a) a a (binds-once P s ok a a l l)))
 
@@ -80,17 +53,7 @@ pairs-most P s ok =
 pub pairs-room : (P : Problem) (s : Plan) → InOrder P → P .count ≤ 24 → length (pairBytes P s) ≤ 552
 pairs-room P s ok l = omega (arith, pairs-most P s ok, mul-le-mul-right (P .count) l)
 
--- an entry of the list has its room in the whole
-pub entry-room : (f : ℕ → List ℕ) (k n : ℕ) → k < n → length (joined f k) + length (f k) ≤ length (joined f n)
-unfolding joined
-entry-room f k n l = omega (arith, in-order-mono f (suc k) n l, length-append (joined f k) (f k))
-
 pub pair-room : (b : Bool) (x y at n : ℕ) → b ≡ true → at + length (pairIf b x y) ≤ n → at + 2 ≤ n
 unfolding pairIf
 pair-room true x y at n e h = h
 pair-room false x y at n e h = absurd (subst T (sym e) tt)
-
--- the same as the loops see it: the place `next` stands behind the entries below k, and `yes` is the test of entry k
-pub next-room : (f : ℕ → List ℕ) (k n : ℕ) (ys : List ℕ) (at next room : ℕ) → k < n → ys ≡ f k → next ≡ at + length (joined f k) → at + length (joined f n) ≤ room
-    → next + length ys ≤ room
-next-room f k n ys at next room l e h m = rw e (omega (arith, entry-room f k n l))

@@ -28,7 +28,12 @@ use Rattle.cases.specs.Cases.{out, cases}
 use Rattle.cases.proofs.Refute.{some, every, addIf, collect, include, dueIf, exclude, ahead, behind, isJob, atLeast, chain, broken, wants, guards, step, refute, hopeless}
 use Rattle.cases.proofs.Firsts.{sooner, dueBefore, noneBefore}
 use Rattle.cases.proofs.Batched.{makes-two, makes-none}
-use Rattle.cases.proofs.Shown.{plans-ok, none-ok, least-ok, judged-ok, touch-ok, tenths-ok, all, solves, estimates-ok, stands, keeps, settles, explains-ok, hinders-ok, finishes-ok, takes-ok, refuses-ok}
+use Rattle.lines.specs.Lines.{textIf, decimal}
+use Rattle.plantext.specs.Form.{isDigit, isZero, inName, sameLetters, wordStands, digitsEnd, pointAt, zerosEnd, numberEnd, numberAt, valueOf, valueAt, nameAt, nameLength, nameEnd, durationAt, nextLine, startForm, durationForm, inForm}
+use Rattle.plantext.specs.Names.{nameSize, nameOf, nameLetter, isNamed, misnamed, sharesName, namesCheck, jobNamed}
+use Rattle.plantext.specs.Reading.{lineAt, lineJob, planSaid, formless, lineChecks, textOver, linesRead, textChecks}
+use Rattle.plantext.specs.Writing.{stepLine, stepsText}
+use Rattle.cases.proofs.Shown.{plans-ok, none-ok, least-ok, judged-ok, touch-ok, tenths-ok, all, solves, estimates-ok, stands, keeps, settles, explains-ok, hinders-ok, finishes-ok, says-none, says-one, misses-first, takes-ok, refuses-ok}
 
 -- one case, and all that follow
 infixr 20 _also_
@@ -36,7 +41,7 @@ _also_ : {A B : Type 0} → A → B → A × B
 a also b = (a, b)
 
 pub all-hold : AllHold cases
-unfolding _also_ cases unmarked blocks startFits jobFits name named supporting feeds binds joined pairIf pairBytes facts has after least further any refuseIf refuseAt refuseFor between strays jobStrays undoes jobChecks tableChecks boundCheck inPlan spoils clashOf interfere ends afterIf finishes holds late early overlap clashes clashFact unready missing planChecks inRange tenths float some every addIf collect include dueIf exclude ahead behind isJob atLeast chain broken wants guards step refute hopeless sooner dueBefore noneBefore all solves plus cheapest cost condition dearest stands keeps settles hindranceOf greatestOf overrunCheck sum houseGroups batchChecks
+unfolding _also_ cases unmarked blocks startFits jobFits name named supporting feeds binds joined pairIf pairBytes facts has after least further any refuseIf refuseAt refuseFor between strays jobStrays undoes jobChecks tableChecks boundCheck inPlan spoils clashOf interfere ends afterIf finishes holds late early overlap clashes clashFact unready missing planChecks inRange tenths float some every addIf collect include dueIf exclude ahead behind isJob atLeast chain broken wants guards step refute hopeless sooner dueBefore noneBefore all solves plus cheapest cost condition dearest stands keeps settles hindranceOf greatestOf overrunCheck sum houseGroups batchChecks textIf decimal isDigit isZero inName sameLetters wordStands digitsEnd pointAt zerosEnd numberEnd numberAt valueOf valueAt nameAt nameLength nameEnd durationAt nextLine startForm durationForm inForm nameSize nameOf nameLetter isNamed misnamed sharesName namesCheck jobNamed lineAt lineJob planSaid formless lineChecks textOver linesRead textChecks stepLine stepsText
 all-hold =
     -- P1
     plans-ok refl refl tt
@@ -120,6 +125,24 @@ all-hold =
     also refl
     also refl
     also refl
+    also refl
+    also refl
+    also refl
+    -- Eight
+    also (refl, refl)
+    also says-one (omega arith) refl tt tt
+    also says-none tt tt
+    also says-one (omega arith) refl tt tt
+    also misses-first (omega arith) (λ x. x) refl
+    also misses-first (omega arith) (λ x. x) refl
+    also misses-first (omega arith) (λ x. x) refl
+    also misses-first (omega arith) (λ x. x) refl
+    also misses-first (omega arith) (λ x. x) refl
+    also misses-first (omega arith) (λ x. x) refl
+    also misses-first (omega arith) (λ x. x) refl
+    also misses-first (omega arith) (λ x. x) refl
+    also misses-first (omega arith) (λ x. x) refl
+    also misses-first (omega arith) (λ x. x) refl
     also refl
     also refl
     also refl

@@ -6,6 +6,7 @@ use mathlib.Core.Bool.{Bool, not, _&&_, _||_, cond}
 use mathlib.Core.List.{List}
 use Prim.Native.Nat.{ℕ, _+_, _*_, _-_, _≤_, _<_}
 use native.Mathlib.Omega.{arith}
+use lib.ListN.{length}
 use lib.Dec.{T, eqb, ltb, eqb→eq, ltb→lt, T-not}
 use lib.Ieee.{Float}
 use lib.IntN.{ℤ}
@@ -36,7 +37,11 @@ use Rattle.rules.proofs.Late.{greatestOf, finish-of, ofOne, pairsOfOne, one-ord
 use Rattle.rules.proofs.Orders.{wider, planned-only, bounded-only}
 use Rattle.tenths.specs.Tenths.{inRange, AreTenths, tenths}
 use Rattle.tenths.proofs.Nearest.{tenths-are}
-use Rattle.cases.specs.Claims.{tableAndBound, Taken, RefusedWith, Plans, Refuses10, LeastIs, Judged, Touch, HasTenths, EstimatesAre, ExplainedBy, HinderedBy, FinishesAt}
+use Rattle.cases.specs.Claims.{tableAndBound, SameStarts, Taken, RefusedWith, Plans, Refuses10, LeastIs, Judged, Touch, HasTenths, EstimatesAre, ExplainedBy, HinderedBy, FinishesAt, SaysStarts, MissesLine}
+use Rattle.plantext.specs.Form.{sameLetters}
+use Rattle.plantext.specs.Reading.{lineAt, planSaid, lineChecks, textOver}
+use Rattle.plantext.proofs.Laws.{same-letters}
+use Rattle.plantext.proofs.Lines.{Goes, goes-more, stops-over, stops-bad, line-checks}
 use Rattle.cases.proofs.Refute.{hopeless}
 use Rattle.cases.proofs.Firsts.{noneBefore, none, first, below-least}
 
@@ -232,3 +237,27 @@ finishes-ok {P} {bound} {k} {t} {s} z w taken e x y h = record { valid = accepts
       longest = longest-of P ok s bound _ (finish-of (ofOne P) (pairsOfOne P bound s) w (settled-ok (ofOne P) (pairsOfOne P bound s) w y (one-order P ok)));
       sum = h;
     }
+
+-- ── texts: the line at place 0 is looked at, and where it ends ──
+
+module _ {P : Problem} {names text : List ℕ} where
+  -- reading stops behind k good lines, and the starts are looked at one by one
+  says-lines : {s : Plan} (k : ℕ) → Goes P names text k → T (textOver text k) → T (sameLetters (planSaid P names text k) s (P .count)) → SaysStarts P names text s
+  says-lines {s} k g o h = let e = stops-over P names text k g o in record {
+    good = e .1;
+    said = subst (λ (i : ℕ). SameStarts P (planSaid P names text i) s) (sym (e .0)) (same-letters (planSaid P names text k) s (P .count) h);
+  }
+
+  none-goes : Goes P names text 0
+  none-goes = record { within = omega arith; lines = λ i l. absurd (omega arith) }
+
+  pub says-none : {s : Plan} → T (textOver text 0) → T (sameLetters (planSaid P names text 0) s (P .count)) → SaysStarts P names text s
+  says-none o h = says-lines 0 none-goes o h
+
+  pub says-one : {s : Plan} → lineAt text 0 < length text → lineChecks P names text 0 accepted .number ≡ 0 → T (textOver text 1) → T (sameLetters (planSaid P names text 1) s (P .count)) → SaysStarts P names text s
+  says-one l z o h = says-lines 1 (goes-more P names text 0 none-goes l (omega arith) z) o h
+
+  pub misses-first : {number : ℕ} → 0 < number → (T (textOver text 0) → ⊥) → lineChecks P names text 0 accepted ≡ refused number 0 → MissesLine P names text number 0
+  misses-first m n e =
+      let some : lineChecks P names text 0 accepted .number ≡ 0 → ⊥ = λ z. omega (arith, ap (λ (v : Verdict). v .number) e) in
+      record { refuses = λ next. stops-bad P names text 0 none-goes n some next ∙ stopped (lineChecks P names text 0) (line-checks P names text 0) some next ∙ e }

@@ -2,13 +2,14 @@
 -- Assumes nothing.
 use mathlib.Core.List.{List, [], _∷_}
 use Prim.Native.Nat.{ℕ, _+_}
+use Prim.Native.String.{String}
 use lib.IntN.{pos, negℤ}
 use Rattle.refusals.specs.Refusals.{accepted, refused}
 use Rattle.rules.specs.declared.Hindrance.the-variants.{Never, TooDear, Neither}
 use Rattle.rules.specs.Table.{Problem}
 use Rattle.tenths.specs.Rounding.{float}
 use Rattle.cases.specs.Jobs.{action, problemOf, lasting, landing}
-use Rattle.cases.specs.Claims.{Claim, plans, noPlan, least, touching, offered, clashing, binding, tenths, estimates, explains, hinders, finishes, overruns, makes, entered, takes, refuses}
+use Rattle.cases.specs.Claims.{Claim, plans, noPlan, least, touching, offered, clashing, binding, tenths, estimates, explains, hinders, finishes, overruns, makes, entered, tells, says, misses, misnames, takes, refuses}
 use Rattle.tables.specs.declared.Action.{Action}
 
 -- ── jobs U ──
@@ -32,6 +33,10 @@ wash = action (1 ∷ []) (4 ∷ []) (2 ∷ []) 3
 -- all four jobs with this atom count, open {0}
 abbrev pub counting : (atoms : ℕ) (goals : List ℕ) → Problem
 counting atoms goals = problemOf (unpack ∷ drench ∷ warm ∷ wash ∷ []) atoms (0 ∷ []) goals
+
+-- their names
+abbrev pub namesU : List String
+namesU = "unpack" ∷ "drench" ∷ "warm" ∷ "wash" ∷ []
 
 -- five facts, by rule 1
 abbrev pub U : (goals : List ℕ) → Problem
@@ -207,4 +212,27 @@ cases =
     ∷ entered (0 ∷ 0 ∷ 0 ∷ 0 ∷ 0 ∷ []) 0 (refused 29 4)
     ∷ entered (0 ∷ 0 ∷ 0 ∷ 0 ∷ 12 ∷ []) 0 (refused 28 4)
     ∷ entered (10 ∷ 255 ∷ 12 ∷ 10 ∷ []) 0 (refused 28 1)
+    -- Eight: the text of P3's plan with the names of 01 has 92 letters
+    ∷ tells (U (2 ∷ 3 ∷ 4 ∷ [])) namesU 12 (0 ∷ 7 ∷ 4 ∷ 4 ∷ []) "0.000: (unpack) [4.000]\n4.000: (warm) [8.000]\n4.000: (wash) [3.000]\n7.000: (drench) [2.000]\n" 92
+    -- Eight: 04 and 4.0 are 4, no lines are the empty plan, and 2,880 is taken
+    ∷ says (U []) namesU "04: (warm) [8.0]\n" (out ∷ out ∷ 4 ∷ out ∷ [])
+    ∷ says (U []) namesU "" (out ∷ out ∷ out ∷ out ∷ [])
+    ∷ says (U []) namesU "2880: (warm) [8]\n" (out ∷ out ∷ 2880 ∷ out ∷ [])
+    -- Eight: 2,881, five digits, `4.`, `.0`, a line without its newline and an empty line are refused with 23
+    ∷ misses (U []) namesU "2881: (warm) [8]\n" 23 0
+    ∷ misses (U []) namesU "00004: (warm) [8]\n" 23 0
+    ∷ misses (U []) namesU "4.: (warm) [8]\n" 23 0
+    ∷ misses (U []) namesU ".0: (warm) [8]\n" 23 0
+    ∷ misses (U []) namesU "4: (warm) [8]" 23 0
+    ∷ misses (U []) namesU "\n" 23 0
+    -- Eight: a name of 17 letters and one with a capital are outside the form, another name is unknown
+    ∷ misses (U []) namesU "4: (warmwarmwarmwarmw) [8]\n" 23 0
+    ∷ misses (U []) namesU "4: (Warm) [8]\n" 23 0
+    ∷ misses (U []) namesU "4: (rinse) [8]\n" 24 0
+    -- Eight: another duration
+    ∷ misses (U []) namesU "4: (warm) [9]\n" 26 0
+    -- Eight: of two names alike the lower is told; an empty name, a capital
+    ∷ misnames ("wash" ∷ "warm" ∷ "drench" ∷ "warm" ∷ []) 1
+    ∷ misnames ("wash" ∷ "" ∷ []) 1
+    ∷ misnames ("wash" ∷ "Warm" ∷ []) 1
     ∷ []

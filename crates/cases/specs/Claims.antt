@@ -4,6 +4,7 @@ use mathlib.Core.Path.{_≡_}
 use mathlib.Core.Logic.{_↔_}
 use mathlib.Core.List.{List, [], _∷_}
 use Prim.Native.Nat.{ℕ, _/_, _≤_, _<_}
+use Prim.Native.String.{String}
 use lib.Dec.{T}
 use lib.Ieee.{Float}
 use lib.ListN.{length}
@@ -25,7 +26,11 @@ use Rattle.tables.specs.Tables.{recordAt}
 use Rattle.times.specs.Times.{pairFirst, pairSecond}
 use Rattle.tenths.specs.Tenths.{inRange, AreTenths}
 use Rattle.batches.specs.Batches.{BatchTable, batchChecks}
-use Rattle.cases.specs.Jobs.{facts}
+use Rattle.lines.specs.Letters.{letters}
+use Rattle.plantext.specs.Names.{namesCheck}
+use Rattle.plantext.specs.Reading.{planSaid, linesRead, textChecks}
+use Rattle.plantext.specs.Writing.{stepsText}
+use Rattle.cases.specs.Jobs.{facts, nameTable}
 
 -- the kinds of claim
 pub data Claim : Type 0 where
@@ -59,6 +64,14 @@ pub data Claim : Type 0 where
   makes : (groups : List ℕ) → (jobs : List Action) → (atoms : ℕ) → (goals : List ℕ) → Claim
   -- of batches of these groups this is said to a caller that lends so many records
   entered : (groups : List ℕ) → (room : ℕ) → Verdict → Claim
+  -- with these names this is the text of the plan, and it has so many letters
+  tells : Problem → (names : List String) → (bound : ℕ) → (starts : List ℕ) → (text : String) → (long : ℕ) → Claim
+  -- with these names the lines of the text say these starts
+  says : Problem → (names : List String) → (text : String) → (starts : List ℕ) → Claim
+  -- with these names the text is refused with this number at this line
+  misses : Problem → (names : List String) → (text : String) → (number line : ℕ) → Claim
+  -- a name table of these names is refused with 33 at this place
+  misnames : (names : List String) → (place : ℕ) → Claim
   -- checks 4 to 9 and 20 take the table and the bound
   takes : Problem → (bound : ℕ) → Claim
   -- checks 4 to 9 and 20 refuse the table or the bound with this number and place
@@ -149,6 +162,15 @@ pub record MakesTable (gs : List ℕ) (jobs : List Action) (atoms : ℕ) (goals 
   pub only : (n a o g : ℕ) (job : ℕ → Action) → BatchTable gs n a o g job
       → (n ≡ length jobs) × (a ≡ atoms) × (o ≡ facts (0 ∷ [])) × (g ≡ facts goals) × ((k : ℕ) → k < n → job k ≡ recordAt jobs k)
 
+-- no line of the text is refused, and the lines say s
+pub record SaysStarts (P : Problem) (names text : List ℕ) (s : Plan) : Type 0 where
+  pub good : (next : Verdict) → textChecks P names text next ≡ next
+  pub said : SameStarts P (planSaid P names text (linesRead P names text)) s
+
+-- the text is refused for a line, whatever would come behind
+pub record MissesLine (P : Problem) (names text : List ℕ) (number line : ℕ) : Type 0 where
+  pub refuses : (next : Verdict) → textChecks P names text next ≡ refused number line
+
 -- what a case claims of the rules
 abbrev pub IsSo : Claim → Type 0
 IsSo (plans P bound l) = Plans P bound (starts l)
@@ -166,6 +188,10 @@ IsSo (finishes P bound l k t) = FinishesAt P bound (starts l) k t
 IsSo (overruns k v) = overrunCheck k accepted ≡ v
 IsSo (makes gs jobs atoms goals) = MakesTable gs jobs atoms goals
 IsSo (entered gs room v) = batchChecks gs room ≡ v
+IsSo (tells P names bound l text long) = (stepsText (nameTable names) P bound (starts l) ≡ letters text) × (length (letters text) ≡ long)
+IsSo (says P names text l) = SaysStarts P (nameTable names) (letters text) (starts l)
+IsSo (misses P names text number line) = MissesLine P (nameTable names) (letters text) number line
+IsSo (misnames names place) = namesCheck (nameTable names) (length names) accepted ≡ refused 33 place
 IsSo (takes P bound) = Taken P bound
 IsSo (refuses P bound number place) = RefusedWith P bound number place
 

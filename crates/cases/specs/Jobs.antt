@@ -1,12 +1,14 @@
 -- How the table of cases writes down jobs and sets of facts.
 -- Assumes nothing.
-use mathlib.Core.List.{List, [], _∷_}
-use Prim.Native.Nat.{ℕ, _^_}
+use mathlib.Core.List.{List, [], _∷_, _++_}
+use Prim.Native.Nat.{ℕ, _-_, _^_}
+use Prim.Native.String.{String}
 use lib.Bits.{bitOr}
-use lib.ListN.{length}
+use lib.ListN.{length, replicate}
 use Rattle.rules.specs.Table.{Problem}
 use Rattle.tables.specs.declared.Action.{Action}
 use Rattle.tables.specs.Tables.{problem}
+use Rattle.lines.specs.Letters.{letters}
 
 -- exactly these facts, as one word
 unfoldable pub facts : List ℕ → ℕ
@@ -30,3 +32,8 @@ lasting long a = record { conditions = a .conditions; additions = a .additions; 
 -- the same job with a release
 abbrev pub landing : (release : ℕ) → Action → Action
 landing release a = record { conditions = a .conditions; additions = a .additions; deletions = a .deletions; duration = a .duration; release = release }
+
+-- a name table of these names, 16 bytes each
+abbrev pub nameTable : List String → List ℕ
+nameTable [] = []
+nameTable (n ∷ ns) = (letters n ++ replicate (16 - length (letters n)) 0) ++ nameTable ns

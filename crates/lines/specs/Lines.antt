@@ -3,7 +3,9 @@
 use mathlib.Core.Bool.{Bool, true, false}
 use mathlib.Core.List.{List, [], _∷_, _++_}
 use Prim.Native.Nat.{ℕ, _+_, _/_, _%_}
-use lib.Dec.{leb}
+use lib.Dec.{eqb, leb}
+use Rattle.rules.specs.Plans.{Plan}
+use Rattle.rules.specs.Pairs.{joined}
 use Rattle.lines.specs.Letters.{letters}
 
 -- ── numbers ──
@@ -42,3 +44,13 @@ jobLine t e j = numberThen t 32 ++ (numberThen e 32 ++ numberThen j 10)
 -- `before` between the two jobs of a pair
 abbrev pub pairLine : (a b : ℕ) → List ℕ
 pairLine a b = decimal a ++ (letters " before " ++ numberThen b 10)
+
+-- ── jobs of a plan ──
+
+-- the lines of the jobs below n that start at t, by number
+abbrev pub startingAt : (line : ℕ → List ℕ) → Plan → (n t : ℕ) → List ℕ
+startingAt line s n t = joined (λ j. textIf (eqb (s j) t) (line j)) n
+
+-- the lines of the plan's jobs by start, then number: those that start at 0, at 1, and so on up to the bound
+abbrev pub byStart : (line : ℕ → List ℕ) → Plan → (n bound : ℕ) → List ℕ
+byStart line s n b = joined (startingAt line s n) (b + 1)

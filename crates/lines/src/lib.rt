@@ -15,7 +15,7 @@ fn put_letter(letter: u8, at: usize, out: &mut [u8]) -> usize
 }
 
 // A word at the place given.
-fn put_word(word: &[u8], at: usize, out: &mut [u8]) -> usize
+pub fn put_word(word: &[u8], at: usize, out: &mut [u8]) -> usize
     requires { ⌜ at + length (now word) ≤ length (now out) ⌝ }
     ensures { λ r. ⌜ Lays (length (now (word .entry))) (now (word .entry)) at (now (out .entry)) (now (out .exit)) r ⌝ }
 {
@@ -35,7 +35,7 @@ fn put_digit(n: u32, unit: u32, at: usize, out: &mut [u8]) -> usize
 }
 
 // A number below 100,000.
-fn put_number(n: u32, at: usize, out: &mut [u8]) -> usize
+pub fn put_number(n: u32, at: usize, out: &mut [u8]) -> usize
     requires { ⌜ at + 5 ≤ length (now out) ⌝ }
     ensures { λ r. ⌜ Lays 5 (decimal n) at (now (out .entry)) (now (out .exit)) r ⌝ }
 {

@@ -4,6 +4,7 @@ pub mod Tells
 pub mod Judges
 pub mod Fills
 pub mod Derives
+pub mod Exchanges
 pub mod Hands
 pub mod Fits
 pub mod Only

@@ -34,6 +34,10 @@ use Rattle.jobfile.specs.Calls.{Writes}
 use Rattle.jobfile_write.proofs.Only as jobfile_write
 use Rattle.jobfile.specs.Tidy.{Tidies}
 use Rattle.jobfile_tidy.proofs.Only as jobfile_tidy
+use Rattle.plantext.specs.Reading.{ReadsText}
+use Rattle.plantext_read.proofs.Only as plantext_read
+use Rattle.plantext.specs.Writing.{WritesText}
+use Rattle.plantext_write.proofs.Only as plantext_write
 use Rattle.tables.specs.declared.Action.{Action}
 use Rattle.records.specs.Records.{loaded}
 use Rattle.nuzzlefleece.specs.declared.ReadAnswer.{ReadAnswer}
@@ -56,6 +60,12 @@ module _ (ts : List Action) (q : Ask) (r s : Answer) where
 
     pub settle-only : (pairs : List ℕ) → Settling l q pairs old new r → Settling l q pairs old new′ s → (r ≡ s) × (new ≡ new′)
     settle-only pairs = settle.settle-only l q pairs old new new′ r s
+
+    pub read-text-only : (names text : List ℕ) → ReadsText l q names text old new r → ReadsText l q names text old new′ s → (r ≡ s) × (new ≡ new′)
+    read-text-only names text = plantext_read.read-text-only l q names text old new new′ r s
+
+    pub write-text-only : (names starts : List ℕ) → WritesText l q names starts old new r → WritesText l q names starts old new′ s → (r ≡ s) × (new ≡ new′)
+    write-text-only names starts = plantext_write.write-text-only l q names starts old new new′ r s
 
     pub earliest-only : Earliest l q old new r → Earliest l q old new′ s → (r ≡ s) × (new ≡ new′)
     earliest-only = estimates.earliest-only l q old new new′ r s

@@ -2,7 +2,7 @@
 -- Assumes nothing.
 use mathlib.Core.Path.{_≡_, refl, sym, ap, subst, _∙_}
 use mathlib.Core.Logic.{inl, inr, _≢_}
-use mathlib.Core.Bool.{Bool, false, not}
+use mathlib.Core.Bool.{Bool, false, not, _||_}
 use mathlib.Core.List.{List}
 use Prim.Native.Nat.{ℕ, _+_, _*_, _/_}
 use native.Mathlib.Omega.{arith}
@@ -53,6 +53,11 @@ use Rattle.readings.specs.Marks.{Marks, bad}
 use Rattle.readings.specs.Opening.{markChecks, openingChecks, Opens}
 use Rattle.jobfile.specs.Format.{lengthAfter, saveLength, trailerIn, askIn, recordsIn, spoilt, tableIn}
 use Rattle.jobfile.specs.Calls.{recordChecks, saveChecks, readChecks, writeChecks, Writes}
+use Rattle.plantext.specs.Names.{namesCheck}
+use Rattle.plantext.specs.Reading.{readVerdict, ReadsText}
+use Rattle.plantext.specs.Writing.{writeVerdict, WritesText}
+use Rattle.plantext.proofs.Laws.{names-checks}
+use Rattle.plantext.proofs.Lines.{text-second}
 use Rattle.jobfile.specs.Tidy.{tidyChecks, Tidies}
 use Rattle.page.specs.Page.{roomCheck, Pages}
 use Rattle.nuzzlefleece.specs.declared.ReadAnswer.{ReadAnswer}
@@ -121,6 +126,20 @@ module _ (l : Loaded) (q : Ask) (r : Answer) where
 
     pub settle-second : (bytes : List ℕ) → Settling l q bytes old new r → Told12 r
     settle-second bytes = filling (all-checks l q bytes (length old)) (λ v value s a. ruled 16 v (a .1))
+
+    pub read-text-second : (names text : List ℕ) → ReadsText l q names text old new r → Told12 r
+    unfolding readVerdict few
+    read-text-second names text x =
+        let lent = few || ltb (length names / 16) (q .jobs) in
+        answered (readVerdict l q names text (length old)) 0 0
+        (seconds (callChecks lent 0 l q) (call-checks lent 0 l q) _ (seconds (namesCheck names (q .jobs)) (names-checks names (q .jobs)) _ (text-second (problem l q) names text)))
+        (x .says)
+
+    pub write-text-second : (names s : List ℕ) → WritesText l q names s old new r → Told12 r
+    unfolding writeVerdict
+    write-text-second names s x =
+        let lent = ltb (length names / 16) (q .jobs) || ltb (length old / 39) (q .jobs) in
+        answered (writeVerdict l q names s (length old)) _ 0 (seconds (offered lent l q s) (offered-checks lent l q s) _ (seconds (namesCheck names (q .jobs)) (names-checks names (q .jobs)) accepted none)) (x .says)
 
     pub write-file-second : (used : ℕ) → Writes l q used old new r → Told12 r
     unfolding writeChecks

@@ -14,6 +14,8 @@ ghost use Rattle.reasons.specs.Reasons.{WhyStart, WhyNoPlan};
 ghost use Rattle.planning.specs.Planning.{PlansWithin, BoundsWithin};
 ghost use Rattle.jobfile.specs.Calls.{Writes};
 ghost use Rattle.jobfile.specs.Tidy.{Tidies};
+ghost use Rattle.plantext.specs.Reading.{ReadsText};
+ghost use Rattle.plantext.specs.Writing.{WritesText};
 ghost use Rattle.records.specs.Records.{loaded};
 ghost use Rattle.nuzzlefleece.specs.Version.{version};
 ghost use Rattle.nuzzlefleece.specs.Files.{told, Reads};
@@ -40,7 +42,7 @@ use tables::Loaded;
 pub extern "C" fn nuzzlefleece_version() -> u32
     ensures { λ r. ⌜ r ≡ version ⌝ }
 {
-    10900
+    11000
 }
 
 // The verdict on an offered plan.
@@ -230,6 +232,36 @@ pub extern "C" fn nuzzlefleece_tidy(used: usize, buf: &mut [u8]) -> Answer
     ensures { λ r. ⌜ Tidies used (now (buf .entry)) (now (buf .exit)) r ⌝ }
 {
     jobfile_tidy::tidy(used, buf)
+}
+
+// Reads the text of a plan, a line a step, into the starts, one a job; a job without a line is out. The names are 16 bytes a job.
+#[no_mangle]
+pub extern "C" fn nuzzlefleece_read_text(
+    t: &[Action],
+    q: Ask,
+    names: &[u8],
+    text: &[u8],
+    out: &mut [u16],
+) -> Answer
+    ensures { λ r. ⌜ ReadsText (loaded (now (t .entry))) q (now (names .entry)) (now (text .entry)) (now (out .entry)) (now (out .exit)) r ⌝ }
+{
+    let l = records::load(t);
+    plantext_read::read_text(l, q, names, text, out)
+}
+
+// Writes the text of a valid plan, a line a step, into the first bytes of a lent buffer; its length comes back.
+#[no_mangle]
+pub extern "C" fn nuzzlefleece_write_text(
+    t: &[Action],
+    q: Ask,
+    names: &[u8],
+    starts: &[u16],
+    out: &mut [u8],
+) -> Answer
+    ensures { λ r. ⌜ WritesText (loaded (now (t .entry))) q (now (names .entry)) (now (starts .entry)) (now (out .entry)) (now (out .exit)) r ⌝ }
+{
+    let l = records::load(t);
+    plantext_write::write_text(l, q, names, starts, out)
 }
 
 // Opening facts from a reading. The marks stand side by side in the three tables, the first `count` of each.

@@ -17,17 +17,17 @@ use Rattle.tables.specs.Tables.{problem, answerOf, changed}
 use Rattle.planning.specs.Planning.{BoundsWithin}
 use Rattle.bytes_le.specs.Little.{atFront}
 use Rattle.jobfile.specs.Calls.{reading}
-use Rattle.lines.specs.Lines.{textIf, refusedLine, leastLine, jobLine, pairLine}
+use Rattle.lines.specs.Lines.{refusedLine, leastLine, jobLine, pairLine, byStart}
 
 -- ── jobs and pairs ──
 
--- the jobs that start at t, by number
-abbrev pub jobsAt : Problem → Plan → (t : ℕ) → List ℕ
-jobsAt P s t = joined (λ j. textIf (eqb (s j) t) (jobLine (s j) (finish P s j) j)) (P .count)
+-- the line of job j of the plan
+abbrev pub planLine : Problem → Plan → (j : ℕ) → List ℕ
+planLine P s j = jobLine (s j) (finish P s j) j
 
--- the plan's jobs by start, then number: those that start at 0, at 1, and so on up to the bound
+-- the plan's jobs by start, then number, up to the bound
 abbrev pub jobLines : Problem → Plan → (bound : ℕ) → List ℕ
-jobLines P s b = joined (jobsAt P s) (b + 1)
+jobLines P s = byStart (planLine P s) s (P .count)
 
 -- a line for each of the first n pairs, of two bytes each
 abbrev pub pairLines : List ℕ → ℕ → List ℕ

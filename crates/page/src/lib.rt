@@ -6,9 +6,9 @@ ghost use Rattle.rules.specs.Plans.{starts};
 ghost use Rattle.rules.specs.Premises.{InOrder};
 ghost use Rattle.tables.specs.Tables.{jobAt, problem};
 ghost use Rattle.verdict.specs.Steps.{Given};
-ghost use Rattle.lines.specs.Lines.{textIf, jobLine};
+ghost use Rattle.lines.specs.Lines.{textIf, jobLine, startingAt};
 ghost use Rattle.lines.specs.Lays.{Lays, LaysSome};
-ghost use Rattle.page.specs.Page.{jobsAt, jobLines, pairLines, planText, Shows, Pages};
+ghost use Rattle.page.specs.Page.{planLine, jobLines, pairLines, planText, Shows, Pages};
 use tables::Answer;
 use tables::Ask;
 use tables::Loaded;
@@ -30,7 +30,7 @@ fn put_start(l: Loaded, s: &[u16], t: usize, j: usize, at: usize, out: &mut [u8]
 // The jobs that start at t, by number.
 fn put_starts(l: Loaded, q: Ask, s: &[u16], t: usize, at: usize, out: &mut [u8]) -> usize
     requires { ⌜ Given q (now s) × (at + 18 * q .jobs ≤ length (now out)) ⌝ }
-    ensures { λ r. ⌜ Lays (18 * q .jobs) (jobsAt (problem l q) (starts (now (s .entry))) t) at (now (out .entry)) (now (out .exit)) r ⌝ }
+    ensures { λ r. ⌜ Lays (18 * q .jobs) (startingAt (planLine (problem l q) (starts (now (s .entry)))) (starts (now (s .entry))) (q .jobs) t) at (now (out .entry)) (now (out .exit)) r ⌝ }
 {
     let n = q.jobs;
     let mut next = at;

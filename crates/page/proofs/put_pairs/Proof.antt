@@ -2,8 +2,7 @@ use mathlib.Core.Path.{_≡_, refl, _∙_}
 use Rattle.lines.specs.Lines.{pairLine}
 use borrow.Author.Needs.{needs}
 use native.Mathlib.Omega.{arith}
-use Rattle.lines.proofs.Laws.{lays-none, lays-fit}
-use Rattle.page.proofs.Laws.{lays-line}
+use Rattle.lines.proofs.Laws.{lays-none, lays-fit, lays-line}
 use Rattle.lines.specs.Lays.{Lays}
 use Rattle.rules.specs.Pairs.{joined}
 use lib.ListN.{length, getD}

@@ -3,8 +3,7 @@ use Rattle.tables.specs.Tables.{jobAt}
 use Rattle.lines.specs.Lines.{textIf, jobLine}
 use borrow.Author.Needs.{needs}
 use native.Mathlib.Omega.{arith}
-use Rattle.lines.proofs.Laws.{lays-none, lays-fit}
-use Rattle.page.proofs.Laws.{lays-line}
+use Rattle.lines.proofs.Laws.{lays-none, lays-fit, lays-line}
 use Rattle.lines.specs.Lays.{Lays}
 use Rattle.rules.specs.Pairs.{joined}
 use Rattle.rules.specs.Plans.{starts}

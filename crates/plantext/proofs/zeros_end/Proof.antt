@@ -1,0 +1,17 @@
+use native.Mathlib.Omega.{arith}
+use Rattle.plantext.proofs.Laws.{ends-zeros}
+use borrow.Author.Needs.{needs}
+use Rattle.plantext.proofs.zeros_end.Statement.{statement}
+use Rattle.plantext.proofs.zeros_end.Tie as tie
+
+returns : tie.Need-returns
+returns c = let a = c .before .before .args in (ends-zeros (a .text .now) (a .at) (c .letters-from .ensures .0), omega (arith, c .letters-from .ensures .1))
+
+pub zeros-end-spec : {M : Type 1} → statement M
+zeros-end-spec =
+    tie.close
+    (tie.spec
+    (λ c. search needs)
+    (λ c κs. search needs)
+    (λ c. search needs)
+    returns)

@@ -1,0 +1,3 @@
+pub mod Laws
+pub mod Calls
+pub mod Only
