@@ -22,9 +22,9 @@
 extern "C" {
 #endif
 
-/* The version that this header describes, 10,000 times the first number, 100 times the second, and the third: 1.9.0.
+/* The version that this header describes, 10,000 times the first number, 100 times the second, and the third: 1.10.0.
  * nuzzlefleece_version() returns that of the library linked; where the two differ, header and library are not of one build. */
-#define NUZZLEFLEECE_VERSION 10900
+#define NUZZLEFLEECE_VERSION 11000
 
 /* Sizes and limits. A fact is a number below the atom count; a word of facts has fact 0 in its lowest bit. */
 enum {
@@ -41,6 +41,9 @@ enum {
     NUZZLEFLEECE_HOUSE_GROUPS = 12,     /* numbered from 0 */
     NUZZLEFLEECE_MOST_MARKS = 16,
     NUZZLEFLEECE_MOST_LEVEL = 1000,     /* tenths; the least is -1000 */
+    NUZZLEFLEECE_NAME_BYTES = 16,       /* of a job's name in a name table */
+    NUZZLEFLEECE_LINE_BYTES = 39,       /* lent for the text of a plan, for each job */
+    NUZZLEFLEECE_MOST_START = 2880,     /* quarter hours, in a line of a text that is read */
     NUZZLEFLEECE_MOST_FILE = 65536,     /* bytes of a job file */
     NUZZLEFLEECE_RECORD_BYTES = 32,     /* of a job, in a file */
     NUZZLEFLEECE_TRAILER_BYTES = 24,    /* behind the records, in a file */
@@ -74,11 +77,11 @@ enum {
     NUZZLEFLEECE_WHY_NEITHER = 3        /* no goal costs more than the bound */
 };
 
-/* Refusals, checked in the order of their numbers, but 20 between 6 and 7, 21 between 11 and 12, in tidying 3 between 1 and 2, and of
- * batches 28, 29 and 30 before 3.
+/* Refusals, checked in the order of their numbers, but 20 between 6 and 7, 21 between 11 and 12, in tidying 3 between 1 and 2, of
+ * batches 28, 29 and 30 before 3, and in reading a text 33 before 23 to 26, of which the first bad line decides before the number.
  * All that take or write a job table check 3 to 8 and 20, and 9 where there is a bound.
  * The place, and the second number, is 0 where the comment names none. A job is named by its number in the table, a fact by its own, a
- * pair by its number in the list asked. */
+ * pair by its number in the list asked, a line of a text by its number from 0. */
 enum {
     NUZZLEFLEECE_DONE = 0,
     NUZZLEFLEECE_FILE_TOO_LONG = 1,      /* the file, or the file after appending, has over 65,536 bytes */
@@ -104,10 +107,16 @@ enum {
                                           * is not allowed after events that give them */
     NUZZLEFLEECE_RELEASE_WRONG = 20,     /* over 2,880; checked after 6 and before 7; place: lowest job */
     NUZZLEFLEECE_BEFORE_RELEASE = 21,    /* offered plan: a job starts before its release; checked after 11 and before 12; place: lowest job */
+    NUZZLEFLEECE_LINE_WRONG = 23,        /* reading a text: a line outside the form, or a start over 2,880; place: line */
+    NUZZLEFLEECE_NAME_UNKNOWN = 24,      /* reading a text: no job of the table has the name; place: line */
+    NUZZLEFLEECE_JOB_TWICE = 25,         /* reading a text: a line before has the same job; place: line */
+    NUZZLEFLEECE_OTHER_DURATION = 26,    /* reading a text: not the duration of the job; place: line */
     NUZZLEFLEECE_NOT_IN_SET = 27,        /* why a job starts when it does: it is not in the set; place: the job */
     NUZZLEFLEECE_GROUP_UNKNOWN = 28,     /* batches: no such house group; place: lowest batch, 65,535 for any from there on */
     NUZZLEFLEECE_TOO_MANY_BATCHES = 29,  /* more than 4; place: 4 */
     NUZZLEFLEECE_BATCHES_TOO_LARGE = 30, /* batches: over 24 jobs */
+    NUZZLEFLEECE_NAMES_WRONG = 33,       /* texts: a name is empty, has a byte that may not stand in it or a byte behind its first zero, or two are
+                                          * alike; checked before 23 to 26 and after 14; place: lowest job of which that is so */
     NUZZLEFLEECE_OVERRUN_WRONG = 34      /* how late a plan can get: each job may run over by more than 96; checked after 14 */
 };
 
@@ -136,12 +145,17 @@ static inline const char *nuzzlefleece_words(unsigned number) {
         "following: words that no allowed events give, or an event that is not allowed",
         "a release over 2,880",
         "offered plan: a job starts before its release",
-        NULL, NULL, NULL, NULL, NULL, /* 22 to 26: no such refusals */
+        NULL, /* 22: no such refusal */
+        "text: a line outside the form, or a start over 2,880",
+        "text: no job has the name",
+        "text: a job twice",
+        "text: a duration that is not the job's",
         "why a job starts: it is not in the set",
         "batches: no such house group",
         "batches: more than 4",
         "batches: over 24 jobs",
-        NULL, NULL, NULL, /* 31 to 33: no such refusals */
+        NULL, NULL, /* 31 and 32: no such refusals */
+        "names: one that is no name, or two alike",
         "how late: more than 96 quarter hours over",
     };
     return number < sizeof words / sizeof words[0] && words[number] != NULL ? words[number] : "no such refusal";
@@ -158,7 +172,8 @@ typedef struct nuzzlefleece_action {
     uint8_t reserved[4];
 } nuzzlefleece_action;
 
-/* The numbers of a call; set and pairs are looked at by settling and by nuzzlefleece_why_start alone, the bound by all but the estimates. */
+/* The numbers of a call; set and pairs are looked at by settling and by nuzzlefleece_why_start alone, the bound by all but the
+ * estimates and nuzzlefleece_read_text. */
 typedef struct nuzzlefleece_ask {
     size_t jobs;      /* how many of the lent records are jobs, numbered from 0 */
     uint8_t atoms;    /* the atom count, 1 to 64, and under rule 2 NUZZLEFLEECE_RULE_2 more */
@@ -411,6 +426,27 @@ nuzzlefleece_read_answer nuzzlefleece_read_file(const uint8_t *file, size_t file
  */
 nuzzlefleece_answer nuzzlefleece_write_file(const nuzzlefleece_action *records, size_t lent, nuzzlefleece_save save,
     uint8_t *buffer, size_t buffer_length);
+
+/*
+ * Reads a plan from its text, a line a step, as `4.000: (warm) [8.000]`: start, name and duration of a job, blanks as here, and a newline, at the
+ * last line too. A number is 1 to 4 digits and, if wanted, a point and one or more zeros; a start is at most 2,880. Names are those of the name
+ * table, 16 bytes a job: 1 to 16 small letters, digits or hyphens, zeros behind them, no two alike; what stands behind the bytes of the jobs is not
+ * looked at. Lines stand in any order. Fills one start a job, NUZZLEFLEECE_OUT for a job without a line; the empty text is the empty plan. The
+ * plan is not checked, and ask.bound is not looked at: nuzzlefleece_check_plan does both. Reading what nuzzlefleece_write_text wrote, with the
+ * same jobs and names, gives the plan back. 16 bytes of names a job are to be lent. Refusals 3 to 8 and 20, then 33, then of the first bad line the
+ * lowest of 23 to 26.
+ */
+nuzzlefleece_answer nuzzlefleece_read_text(const nuzzlefleece_action *records, size_t lent, nuzzlefleece_ask ask,
+    const uint8_t *names, size_t names_length, const uint8_t *text, size_t text_length, uint16_t *starts, size_t starts_lent);
+
+/*
+ * Writes the text of a valid plan into the first bytes of the lent text, in the form that nuzzlefleece_read_text takes: a line for each job of
+ * the plan, by start, then job, each number with a point and three zeros. The value is its length, no zero byte ends it; the plan without jobs is
+ * the empty text. 39 bytes a job are to be lent, and 16 bytes of names. Refusals 3 to 9 and 20, then 11 to 14 and 21, with the second number of
+ * nuzzlefleece_check_plan, then 33.
+ */
+nuzzlefleece_answer nuzzlefleece_write_text(const nuzzlefleece_action *records, size_t lent, nuzzlefleece_ask ask,
+    const uint8_t *names, size_t names_length, const uint16_t *starts, size_t starts_lent, uint8_t *text, size_t text_length);
 
 /*
  * Tidies a job file of which the first `used` bytes of the buffer are in use: its last save, notes included, moves to the front, and the

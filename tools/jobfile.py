@@ -89,7 +89,7 @@ class Text:
     """What the lines read so far have said."""
 
     def __init__(self):
-        self.facts, self.names, self.jobs = {}, set(), []
+        self.facts, self.names, self.jobs = {}, {}, []
         self.opening, self.goals, self.bound, self.rule, self.atoms = 0, 0, None, None, None
 
     def line(self, line):
@@ -155,7 +155,7 @@ class Text:
             raise Wrong(f'job {short(name)} is one more than {MOST_JOBS}')
         times = number_in(duration, MOST_SHORT, 'a duration'), number_in(release, MOST_SHORT, 'a release')
         self.jobs.append((*map(self.word, split_lists(lists.split())), *times))
-        self.names.add(name)
+        self.names[name] = len(self.names)
 
     def file(self):
         """The bytes of the file: records, then trailer."""
@@ -223,17 +223,24 @@ def split_lists(words):
     return conditions, effects[:at], effects[at + 1:]
 
 
-def file_of(text):
-    """The file that a text describes; what is wrong is said with its line."""
+def read_text(text):
+    """What a text says, and the file that it describes; what is wrong is said with its line."""
     read, number = Text(), 0
     try:
         for number, line in enumerate(text.splitlines(), 1):
             line = line.split('#')[0]
             if line.strip():
                 read.line(line)
-        return read.file()
+        return read, read.file()
     except Wrong as wrong:
         raise Wrong(f'line {number}: {wrong}') from None
+
+
+def text_in(data):
+    """The text in some bytes, which may begin with a byte order mark."""
+    if len(data) > LONGEST_TEXT:
+        raise Wrong(f'the text has more than {LONGEST_TEXT} bytes')
+    return data.decode('utf-8-sig', 'replace')
 
 
 def take_apart(file):
@@ -396,19 +403,16 @@ def put_in_place(name, data):
         raise Unable(f'{name} is as it was, a new file cannot be written: {error.strerror}') from None
 
 
-def say(line):
+def say(line, tool='jobfile'):
     # Where standard error is closed too there is nobody to tell.
     try:
-        os.write(2, f'jobfile: {line}\n'.encode('utf-8', 'backslashreplace'))
+        os.write(2, f'{tool}: {line}\n'.encode('utf-8', 'backslashreplace'))
     except OSError:
         pass
 
 
 def make():
-    text = taken(LONGEST_TEXT)
-    if len(text) > LONGEST_TEXT:
-        raise Wrong(f'the text has more than {LONGEST_TEXT} bytes')
-    file = file_of(text.decode('utf-8-sig', 'replace'))
+    _, file = read_text(text_in(taken(LONGEST_TEXT)))
     warn(file)
     give(file)
 

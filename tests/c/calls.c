@@ -8,7 +8,7 @@
 
 #include "nuzzlefleece.h"
 
-enum { WORDS = 16, RECORD = 32, SAVED = 28, MOST_RECORDS = 255, MOST_OUT = 2048, MOST_TABLE = 65700 };
+enum { WORDS = 16, RECORD = 32, SAVED = 28, MOST_RECORDS = 255, MOST_OUT = 2048, MOST_TABLE = 72000 };
 
 /* One call as it stands in the stream, and what is lent to it. */
 static uint64_t head[WORDS];
@@ -68,6 +68,7 @@ static int next_call(void) {
     }
     read_records();
     stop_unless(head[9] <= MOST_TABLE && head[10] <= MOST_OUT && (head[0] != 10 || head[11] <= MOST_TABLE));
+    stop_unless((head[0] != 18 && head[0] != 19) || head[6] <= head[9]);
     exactly(table, table_bytes(), MOST_TABLE);
     return 1;
 }
@@ -213,6 +214,23 @@ static void answer_lateness(void) {
     print_answer(nuzzlefleece_how_late(records, head[8], overruns, halves(table, head[9] / 2), head[9] / 2));
 }
 
+/* Call 18: the names, then the text; the starts fill numbers of two bytes. */
+static void answer_read_text(void) {
+    nuzzlefleece_answer answer;
+    memset(halves_out, (int)(head[11] & 255), sizeof halves_out);
+    answer = nuzzlefleece_read_text(records, head[8], ask(), table, head[6], table + head[6], head[9] - head[6], halves_out, head[10]);
+    print_with(answer, halves_out, 2 * head[10]);
+}
+
+/* Call 19: the names, then the starts; the text fills bytes. */
+static void answer_write_text(void) {
+    nuzzlefleece_answer answer;
+    size_t starts = (head[9] - head[6]) / 2;
+    memset(bytes_out, (int)(head[11] & 255), sizeof bytes_out);
+    answer = nuzzlefleece_write_text(records, head[8], ask(), table, head[6], halves(table + head[6], starts), starts, bytes_out, head[10]);
+    print_with(answer, bytes_out, head[10]);
+}
+
 static void answer_readings(void) {
     static int16_t levels[MOST_OUT];
     nuzzlefleece_reading reading;
@@ -275,6 +293,12 @@ static void answer_call(void) {
         break;
     case 17:
         answer_batches();
+        break;
+    case 18:
+        answer_read_text();
+        break;
+    case 19:
+        answer_write_text();
         break;
     default:
         printf("unknown");

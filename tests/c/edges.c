@@ -1,7 +1,7 @@
 /*
  * Calls every function of the C library on the scope's example P3, with warm released later, under rule 2, on jobs that clash, on events as
- * they come, for reasons, where jobs run over, on batches of every house group, on full files, with nothing lent and with bad input, and holds
- * each answer to the scope's numbers. Last line: 'N passed, M failed'; any failure gives status 1.
+ * they come, for reasons, where jobs run over, on batches of every house group, on plans as text, on full files, with nothing lent and with bad
+ * input, and holds each answer to the scope's numbers. Last line: 'N passed, M failed'; any failure gives status 1.
  */
 #include <stdio.h>
 #include <string.h>
@@ -1005,6 +1005,217 @@ static void plans_batches(void) {
     says("no batches", nuzzlefleece_least_bound(batch_records, BATCH_RECORDS, ask, starts, 12), 0, 0, 0);
 }
 
+/* P3's plan as text, its name table, and the text as another planner might write it. */
+static const char p3_text[] = "0.000: (unpack) [4.000]\n4.000: (warm) [8.000]\n4.000: (wash) [3.000]\n7.000: (drench) [2.000]\n";
+static const char p3_names[][NUZZLEFLEECE_NAME_BYTES] = {"unpack", "drench", "warm", "wash"};
+static const char other_text[] = "7: (drench) [2]\n0004.0: (wash) [3]\n0: (unpack) [4.00000]\n4: (warm) [0008]\n";
+
+/* Memory that is lent for starts and for a text stands between bytes that no call may touch. */
+enum { GUARD = 8, MOST_STARTS = 24, TEXT_BYTES = NUZZLEFLEECE_MOST_JOBS * NUZZLEFLEECE_LINE_BYTES };
+static uint16_t guarded_starts[GUARD + MOST_STARTS + GUARD];
+static uint8_t guarded_text[GUARD + TEXT_BYTES + GUARD];
+
+/* Whether the bytes of some memory are as they were, but for some of them from a place on. */
+static int untouched_but(const void *memory, size_t size, size_t from, size_t count) {
+    const uint8_t *bytes = memory;
+    return all_are(bytes, from, BEFORE) && all_are(bytes + from + count, size - from - count, BEFORE);
+}
+
+static nuzzlefleece_answer read_bytes(nuzzlefleece_ask ask, const void *names, size_t names_length, const char *text, size_t length, size_t starts) {
+    memset(guarded_starts, BEFORE, sizeof guarded_starts);
+    return nuzzlefleece_read_text(p3, 4, ask, names, names_length, (const uint8_t *)text, length, guarded_starts + GUARD, starts);
+}
+
+/* A text of P3 is refused: nothing is filled. */
+static void refuses_text(const char *text, unsigned number, unsigned line) {
+    says(text, read_bytes(p3_ask, p3_names, sizeof p3_names, text, strlen(text), 4), number, line, 0);
+    expect("nothing filled", untouched_but(guarded_starts, sizeof guarded_starts, 0, 0));
+}
+
+/* A text of P3 gives these starts, and no place but the four is touched. */
+static void reads_text(const char *text, const uint16_t *wanted) {
+    says(text, read_bytes(p3_ask, p3_names, sizeof p3_names, text, strlen(text), 6), 0, 0, 0);
+    expect(text, memcmp(guarded_starts + GUARD, wanted, 8) == 0 && untouched_but(guarded_starts, sizeof guarded_starts, 2 * GUARD, 8));
+}
+
+static nuzzlefleece_answer write_plan(nuzzlefleece_ask ask, const void *names, size_t names_length, const uint16_t *starts, size_t lent, size_t room) {
+    memset(guarded_text, BEFORE, sizeof guarded_text);
+    return nuzzlefleece_write_text(p3, 4, ask, names, names_length, starts, lent, guarded_text + GUARD, room);
+}
+
+/* A plan is refused: no byte is filled. */
+static void refuses_plan(const char *what, nuzzlefleece_answer answer, unsigned number, unsigned second, unsigned place) {
+    says_all(what, answer, number, second, place, 0);
+    expect("no byte filled", untouched_but(guarded_text, sizeof guarded_text, 0, 0));
+}
+
+/* P3 is written with 92 bytes, in 156 and in more, and read back; lines in any order, numbers in any form. */
+static void answers_texts(void) {
+    static const uint16_t none[] = {NUZZLEFLEECE_OUT, NUZZLEFLEECE_OUT, NUZZLEFLEECE_OUT, NUZZLEFLEECE_OUT};
+    static const uint16_t last[] = {NUZZLEFLEECE_OUT, NUZZLEFLEECE_OUT, 2880, NUZZLEFLEECE_OUT};
+    static const size_t rooms[] = {156, 157, TEXT_BYTES};
+    nuzzlefleece_ask ask = p3_ask;
+    for (size_t i = 0; i < 3; i++) {
+        says("P3 written", write_plan(p3_ask, p3_names, sizeof p3_names, p3_starts, 4, rooms[i]), 0, 0, 92);
+        expect("92 bytes, and no other", memcmp(guarded_text + GUARD, p3_text, 92) == 0 && untouched_but(guarded_text, sizeof guarded_text, GUARD, 92));
+    }
+    reads_text(p3_text, p3_starts);
+    reads_text(other_text, p3_starts);
+    reads_text("", none);
+    reads_text("2880: (warm) [8]\n", last);
+    ask.bound = 65535;
+    says("reading looks at no bound", read_bytes(ask, p3_names, sizeof p3_names, p3_text, 92, 4), 0, 0, 0);
+    ask.bound = 2881;
+    refuses_plan("writing does", write_plan(ask, p3_names, sizeof p3_names, p3_starts, 4, 156), NUZZLEFLEECE_BOUND_WRONG, 0, 0);
+    ask = p3_ask;
+    ask.goals = 0;
+    says("the plan without jobs", write_plan(ask, p3_names, sizeof p3_names, none, 4, 156), 0, 0, 0);
+    expect("the empty text", untouched_but(guarded_text, sizeof guarded_text, 0, 0));
+}
+
+/* Every byte of the text dropped, and each of some others put in its place, of which a 7 as a start alone is taken; what is refused fills nothing. */
+static void reads_damaged_texts(void) {
+    static const char others[] = "\0 \n(.7Z\xff";
+    char text[sizeof p3_text];
+    unsigned read = 0;
+    for (size_t at = 0; at < 92; at++) {
+        memcpy(text, p3_text, at);
+        memcpy(text + at, p3_text + at + 1, 91 - at);
+        nuzzlefleece_answer answer = read_bytes(p3_ask, p3_names, sizeof p3_names, text, 91, 4);
+        expect("a byte dropped", answer.number == 0 || untouched_but(guarded_starts, sizeof guarded_starts, 0, 0));
+        read += answer.number == 0;
+        memcpy(text, p3_text, sizeof text);
+        for (size_t i = 0; i < sizeof others - 1; i++) {
+            text[at] = others[i];
+            answer = read_bytes(p3_ask, p3_names, sizeof p3_names, text, 92, 4);
+            expect("a byte put in", (answer.number == 0) == (text[at] == p3_text[at] || (text[at] == '7' && (at == 0 || p3_text[at - 1] == '\n'))));
+            expect("the line is told", answer.number == 0 || (answer.place < 5 && untouched_but(guarded_starts, sizeof guarded_starts, 0, 0)));
+        }
+    }
+    expect("24 zeros may be dropped, and the point of 0.000", read == 25);
+}
+
+/* What a line is refused with, the lowest number first, and the first bad line. */
+static void refuses_lines(void) {
+    refuses_text("00004: (warm) [8]\n", NUZZLEFLEECE_LINE_WRONG, 0);
+    refuses_text("4.: (warm) [8]\n", NUZZLEFLEECE_LINE_WRONG, 0);
+    refuses_text(".0: (warm) [8]\n", NUZZLEFLEECE_LINE_WRONG, 0);
+    refuses_text("4.01: (warm) [8]\n", NUZZLEFLEECE_LINE_WRONG, 0);
+    refuses_text("4: (Warm) [8]\n", NUZZLEFLEECE_LINE_WRONG, 0);
+    refuses_text("4: (warmwarmwarmwarmw) [8]\n", NUZZLEFLEECE_LINE_WRONG, 0);
+    refuses_text("4: (warmwarmwarmwarm) [8]\n", NUZZLEFLEECE_NAME_UNKNOWN, 0);
+    refuses_text("2881: (rinse) [9]\n", NUZZLEFLEECE_LINE_WRONG, 0);
+    refuses_text("9999: (warm) [8]\n", NUZZLEFLEECE_LINE_WRONG, 0);
+    refuses_text("4: (warm) [8]", NUZZLEFLEECE_LINE_WRONG, 0);
+    refuses_text("4: (warm) [8]\n\n", NUZZLEFLEECE_LINE_WRONG, 1);
+    refuses_text("4: (warm) [8]\n4: (warm) [8]\n", NUZZLEFLEECE_JOB_TWICE, 1);
+    refuses_text("4: (warm) [8]\n5: (wash) [3]\n6: (warm) [9]\n", NUZZLEFLEECE_JOB_TWICE, 2);
+    refuses_text("4: (warm) [0]\n", NUZZLEFLEECE_OTHER_DURATION, 0);
+    refuses_text("4: (warm) [961]\n", NUZZLEFLEECE_OTHER_DURATION, 0);
+    refuses_text("5: (wash) [3]\n4: (warm) [9999]\nx", NUZZLEFLEECE_OTHER_DURATION, 1);
+    refuses_text("5: (wash) [3]\n4: (rinse) [9]\n5: (wash) [3]\n", NUZZLEFLEECE_NAME_UNKNOWN, 1);
+}
+
+/* A name table that is bad at a job: in reading before any line, in writing behind any fault of the plan. */
+static void refuses_names(const char *what, const void *names, unsigned job) {
+    static const uint16_t early[] = {0, 6, 4, 4};
+    says(what, read_bytes(p3_ask, names, 64, "x", 1, 4), NUZZLEFLEECE_NAMES_WRONG, job, 0);
+    expect("nothing filled", untouched_but(guarded_starts, sizeof guarded_starts, 0, 0));
+    refuses_plan(what, write_plan(p3_ask, names, 64, p3_starts, 4, 156), NUZZLEFLEECE_NAMES_WRONG, 0, job);
+    refuses_plan(what, write_plan(p3_ask, names, 64, early, 4, 156), NUZZLEFLEECE_OVERLAP, 2, 1);
+}
+
+/* Each job with a bad name, and every two alike. */
+static void refuses_name_tables(void) {
+    static const char bad[][NUZZLEFLEECE_NAME_BYTES] = {"", "Warm", "wa_m", "wa m", "w\x80", "a\0b", {[0] = 'a', [15] = 'b'}};
+    char names[4][NUZZLEFLEECE_NAME_BYTES];
+    for (unsigned job = 0; job < 4; job++) {
+        for (size_t i = 0; i < sizeof bad / sizeof bad[0]; i++) {
+            memcpy(names, p3_names, sizeof names);
+            memcpy(names[job], bad[i], sizeof bad[i]);
+            refuses_names("a bad name", names, job);
+        }
+        for (unsigned other = 0; other < job; other++) {
+            memcpy(names, p3_names, sizeof names);
+            memcpy(names[job], names[other], sizeof names[other]);
+            refuses_names("two alike", names, other);
+        }
+    }
+}
+
+/* One byte or element too few of each thing that is lent, just enough, and more; counts that would overflow. */
+static void refuses_short_texts(void) {
+    static const size_t counts[] = {5, (size_t)1 << 60, ((size_t)1 << 60) + 4, (size_t)1 << 63, (size_t)-1};
+    static const uint16_t more[] = {0, 7, 4, 4, 1};
+    char names[97];
+    nuzzlefleece_ask ask = p3_ask;
+    memset(names, 1, sizeof names);
+    memcpy(names, p3_names, sizeof p3_names);
+    says("64 bytes of names", read_bytes(ask, names, 64, p3_text, 92, 4), 0, 0, 0);
+    says("97 bytes of names", read_bytes(ask, names, 97, p3_text, 92, 24), 0, 0, 0);
+    says("97 bytes of names", write_plan(ask, names, 97, more, 5, 156), 0, 0, 92);
+    says("63 bytes of names", read_bytes(ask, names, 63, p3_text, 92, 4), NUZZLEFLEECE_LENT_TOO_SHORT, 0, 0);
+    says("three starts", read_bytes(ask, names, 64, p3_text, 92, 3), NUZZLEFLEECE_LENT_TOO_SHORT, 0, 0);
+    says("no names", read_bytes(ask, NULL, 0, p3_text, 92, 4), NUZZLEFLEECE_LENT_TOO_SHORT, 0, 0);
+    refuses_plan("63 bytes of names", write_plan(ask, names, 63, p3_starts, 4, 156), NUZZLEFLEECE_LENT_TOO_SHORT, 0, 0);
+    refuses_plan("three starts", write_plan(ask, names, 64, p3_starts, 3, 156), NUZZLEFLEECE_LENT_TOO_SHORT, 0, 0);
+    refuses_plan("155 bytes of text", write_plan(ask, names, 64, p3_starts, 4, 155), NUZZLEFLEECE_LENT_TOO_SHORT, 0, 0);
+    for (size_t i = 0; i < sizeof counts / sizeof counts[0]; i++) {
+        ask.jobs = counts[i];
+        says("more jobs than names", read_bytes(ask, names, 64, p3_text, 92, MOST_STARTS), NUZZLEFLEECE_LENT_TOO_SHORT, 0, 0);
+        refuses_plan("more jobs than names", write_plan(ask, names, 64, more, 5, TEXT_BYTES), NUZZLEFLEECE_LENT_TOO_SHORT, 0, 0);
+    }
+}
+
+/* 24 lines of 39 bytes are written and read back; one more is refused, whatever its job; 25 jobs are refused. */
+static void fills_texts(void) {
+    nuzzlefleece_action jobs[25];
+    nuzzlefleece_ask ask = {.jobs = 24, .atoms = 1, .goals = 1, .bound = 2880};
+    char names[25][NUZZLEFLEECE_NAME_BYTES], text[TEXT_BYTES + 39];
+    uint16_t starts[24], back[25] = {0};
+    for (size_t i = 0; i < 25; i++) {
+        jobs[i] = (nuzzlefleece_action){.additions = 1, .duration = 960};
+        memset(names[i], 'a', sizeof names[i]);
+        names[i][15] = (char)('a' + i);
+    }
+    for (size_t i = 0; i < 24; i++) {
+        starts[i] = (uint16_t)(1920 - i);
+    }
+    memset(guarded_text, BEFORE, sizeof guarded_text);
+    says("24 lines", nuzzlefleece_write_text(jobs, 25, ask, (const uint8_t *)names, sizeof names, starts, 24, guarded_text + GUARD, TEXT_BYTES), 0, 0, TEXT_BYTES);
+    expect("all bytes filled, and no other", untouched_but(guarded_text, sizeof guarded_text, GUARD, TEXT_BYTES));
+    expect("the last job first", memcmp(guarded_text + GUARD, "1897.000: (aaaaaaaaaaaaaaax) [960.000]\n", 39) == 0);
+    memcpy(text, guarded_text + GUARD, TEXT_BYTES);
+    memcpy(text + TEXT_BYTES, text, 39);
+    says("read back", nuzzlefleece_read_text(jobs, 25, ask, (const uint8_t *)names, sizeof names, (const uint8_t *)text, TEXT_BYTES, back, 25), 0, 0, 0);
+    expect("the same starts", memcmp(back, starts, sizeof starts) == 0 && back[24] == 0);
+    says("a job again", nuzzlefleece_read_text(jobs, 25, ask, (const uint8_t *)names, sizeof names, (const uint8_t *)text, sizeof text, back, 25),
+        NUZZLEFLEECE_JOB_TWICE, 24, 0);
+    text[TEXT_BYTES + 11] = 'b';
+    says("a strange name", nuzzlefleece_read_text(jobs, 25, ask, (const uint8_t *)names, sizeof names, (const uint8_t *)text, sizeof text, back, 25),
+        NUZZLEFLEECE_NAME_UNKNOWN, 24, 0);
+    ask.jobs = 25;
+    says("25 jobs", nuzzlefleece_read_text(jobs, 25, ask, (const uint8_t *)names, sizeof names, NULL, 0, back, 25), NUZZLEFLEECE_TOO_MANY_JOBS, 0, 0);
+}
+
+/* Plans that are not valid, with the second number, each before the names; the same texts are read. */
+static void refuses_texts_of_plans(void) {
+    static const struct {
+        uint16_t starts[4];
+        unsigned bound, number, second, place;
+    } plans[] = {{{0, 7, 4, 4}, 11, NUZZLEFLEECE_ENDS_TOO_LATE, 0, 2}, {{0, 6, 4, 4}, 12, NUZZLEFLEECE_OVERLAP, 2, 1},
+        {{NUZZLEFLEECE_OUT, 7, 4, 4}, 12, NUZZLEFLEECE_CONDITION_MISSING, 0, 1}, {{0, 7, 4, NUZZLEFLEECE_OUT}, 12, NUZZLEFLEECE_GOAL_MISSING, 0, 4}};
+    for (size_t i = 0; i < sizeof plans / sizeof plans[0]; i++) {
+        nuzzlefleece_ask ask = p3_ask;
+        ask.bound = (uint16_t)plans[i].bound;
+        refuses_plan("not valid", write_plan(ask, p3_names, 64, plans[i].starts, 4, 156), plans[i].number, plans[i].second, plans[i].place);
+        refuses_plan("before the names", write_plan(ask, "", 0, plans[i].starts, 4, 156), NUZZLEFLEECE_LENT_TOO_SHORT, 0, 0);
+    }
+    memset(guarded_text, BEFORE, sizeof guarded_text);
+    refuses_plan("before a release", nuzzlefleece_write_text(late, 4, p3_ask, (const uint8_t *)p3_names, 64, p3_starts, 4, guarded_text + GUARD, 156),
+        NUZZLEFLEECE_BEFORE_RELEASE, 0, 2);
+}
+
 /* A save is read back, and its page is bench-plan's text. */
 static void answers_files(void) {
     static uint8_t file[200], text[NUZZLEFLEECE_PAGE_BYTES];
@@ -1160,6 +1371,9 @@ static void takes_null(void) {
     reasons("null: why no plan", nuzzlefleece_why_no_plan(NULL, 0, ask), 0, 0, NUZZLEFLEECE_WHY_NEITHER, NUZZLEFLEECE_NO_FACT);
     says("null: batches", nuzzlefleece_batches(NULL, 0, NULL, 0).answer, 0, 0, 0);
     says("null: a batch", nuzzlefleece_batches(&group, 1, NULL, 0).answer, NUZZLEFLEECE_LENT_TOO_SHORT, 0, 0);
+    says("null: read text", nuzzlefleece_read_text(NULL, 0, ask, NULL, 0, NULL, 0, NULL, 0), 0, 0, 0);
+    says("null: a text for no job", nuzzlefleece_read_text(NULL, 0, ask, NULL, 0, (const uint8_t *)p3_text, 92, NULL, 0), NUZZLEFLEECE_NAME_UNKNOWN, 0, 0);
+    says("null: write text", nuzzlefleece_write_text(NULL, 0, ask, NULL, 0, NULL, 0, NULL, 0), 0, 0, 0);
     says("null: read file", nuzzlefleece_read_file(NULL, 0, NULL, 0).answer, NUZZLEFLEECE_FILE_DAMAGED, 0, 0);
     says("null: write file", nuzzlefleece_write_file(NULL, 0, save, NULL, 0), NUZZLEFLEECE_LENT_TOO_SHORT, 0, 0);
     says("null: tidy", nuzzlefleece_tidy(0, NULL, 0), NUZZLEFLEECE_FILE_DAMAGED, 0, 0);
@@ -1210,15 +1424,20 @@ static void describes_itself(void) {
     expect("version", nuzzlefleece_version() == NUZZLEFLEECE_VERSION);
     expect("a record has 32 bytes", sizeof(nuzzlefleece_action) == NUZZLEFLEECE_RECORD_BYTES);
     for (unsigned number = 0; number <= NUZZLEFLEECE_OVERRUN_WRONG + 1; number++) {
-        int known = number <= NUZZLEFLEECE_BEFORE_RELEASE || (number >= NUZZLEFLEECE_NOT_IN_SET && number <= NUZZLEFLEECE_BATCHES_TOO_LARGE)
-            || number == NUZZLEFLEECE_OVERRUN_WRONG;
+        int known = number <= NUZZLEFLEECE_BEFORE_RELEASE || (number >= NUZZLEFLEECE_LINE_WRONG && number <= NUZZLEFLEECE_BATCHES_TOO_LARGE)
+            || number == NUZZLEFLEECE_NAMES_WRONG || number == NUZZLEFLEECE_OVERRUN_WRONG;
         expect("words of a refusal, and of no other", (strcmp(nuzzlefleece_words(number), "no such refusal") != 0) == known);
     }
     expect("words of 20", strcmp(nuzzlefleece_words(NUZZLEFLEECE_RELEASE_WRONG), "a release over 2,880") == 0);
+    expect("words of 23", strcmp(nuzzlefleece_words(NUZZLEFLEECE_LINE_WRONG), "text: a line outside the form, or a start over 2,880") == 0);
+    expect("words of 24", strcmp(nuzzlefleece_words(NUZZLEFLEECE_NAME_UNKNOWN), "text: no job has the name") == 0);
+    expect("words of 25", strcmp(nuzzlefleece_words(NUZZLEFLEECE_JOB_TWICE), "text: a job twice") == 0);
+    expect("words of 26", strcmp(nuzzlefleece_words(NUZZLEFLEECE_OTHER_DURATION), "text: a duration that is not the job's") == 0);
     expect("words of 27", strcmp(nuzzlefleece_words(NUZZLEFLEECE_NOT_IN_SET), "why a job starts: it is not in the set") == 0);
     expect("words of 28", strcmp(nuzzlefleece_words(NUZZLEFLEECE_GROUP_UNKNOWN), "batches: no such house group") == 0);
     expect("words of 29", strcmp(nuzzlefleece_words(NUZZLEFLEECE_TOO_MANY_BATCHES), "batches: more than 4") == 0);
     expect("words of 30", strcmp(nuzzlefleece_words(NUZZLEFLEECE_BATCHES_TOO_LARGE), "batches: over 24 jobs") == 0);
+    expect("words of 33", strcmp(nuzzlefleece_words(NUZZLEFLEECE_NAMES_WRONG), "names: one that is no name, or two alike") == 0);
     expect("words of 34", strcmp(nuzzlefleece_words(NUZZLEFLEECE_OVERRUN_WRONG), "how late: more than 96 quarter hours over") == 0);
 }
 
@@ -1262,6 +1481,13 @@ int main(void) {
     expands_full_tables();
     refuses_groups();
     plans_batches();
+    answers_texts();
+    reads_damaged_texts();
+    refuses_lines();
+    refuses_name_tables();
+    refuses_short_texts();
+    fills_texts();
+    refuses_texts_of_plans();
     answers_files();
     tidies_full_files();
     tidies_notes();

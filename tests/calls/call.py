@@ -6,15 +6,18 @@ KINDS = {
     1: 'check plan', 2: 'plan within bound', 3: 'least bound', 4: 'supports', 5: 'binding pairs',
     6: 'estimates', 7: 'settle', 8: 'read file', 9: 'write file', 10: 'opening facts', 11: 'why jobs clash',
     12: 'tidy file', 13: 'follow', 14: 'why job starts', 15: 'why no plan', 16: 'how late', 17: 'batches',
+    18: 'read text', 19: 'write text',
 }
 EVENTS = {0: 'start', 1: 'finish'}
 WORDS = 16
 RECORD = struct.Struct('<QQQHH4s')
 # A file ends with a trailer of so many bytes, the atom count at this one of them; rule 2 adds so much to it.
 TRAILER, ATOMS_AT, RULE_2 = 24, 19, 128
+# The bytes of a name in a name table.
+NAME = 16
 
 # What the product's program can take in; a stream that asks for more would test its buffers and not the planner.
-MOST_RECORDS, MOST_OUT, MOST_TABLE, MOST_FILE, MOST_MARKS = 255, 2048, 65600, 65700, 64
+MOST_RECORDS, MOST_OUT, MOST_TABLE, MOST_FILE, MOST_TEXT, MOST_MARKS = 255, 2048, 65600, 65700, 72000, 64
 
 
 class Job(NamedTuple):
@@ -42,12 +45,12 @@ class Call:
 
     def demand_within_limits(self):
         kind, head = self.head[0], self.head
-        most = MOST_FILE if kind in (8, 9, 12) else MOST_TABLE
+        most = {8: MOST_FILE, 9: MOST_FILE, 12: MOST_FILE, 18: MOST_TEXT}.get(kind, MOST_TABLE)
         lengths = head[9:12] if kind == 10 else []
         fits = (len(self.records) <= MOST_RECORDS and len(self.table) <= most and head[2] <= 255
                 and head[5] <= 65535 and max(lengths, default=0) <= MOST_MARKS
                 and (kind == 10 or head[10] <= MOST_OUT) and (kind not in (13, 14) or max(head[12:14]) <= 255)
-                and (kind != 16 or head[12] <= 65535))
+                and (kind != 16 or head[12] <= 65535) and (kind not in (18, 19) or head[6] <= len(self.table)))
         if not fits or head[8] != len(self.records) or table_bytes(head) != len(self.table):
             raise ValueError(f'a call that does not fit: {head}')
 
@@ -92,6 +95,11 @@ def with_atom_byte(call, byte):
 def with_overrun(call, most):
     """The same call with another number of quarter hours by which each job may run over."""
     return Call([*call.head[:12], most, *call.head[13:]], call.records, call.table)
+
+
+def starts_of(call):
+    """The starts of the plan that a call is given; the names of a text stand before them."""
+    return halves(call.table[call.head[6]:] if call.head[0] == 19 else call.table)
 
 
 def table_bytes(head):
@@ -166,6 +174,14 @@ def overrun_text(call):
     return [f'each job up to {call.head[12]} over']
 
 
+def names_text(call):
+    """The name table in hexadecimal, a word a name, and behind it the text."""
+    names, text = call.table[:call.head[6]], call.table[call.head[6]:]
+    entries = [names[at:at + NAME].hex() for at in range(0, len(names), NAME)]
+    behind = [starts_text(text)] if call.head[0] == 19 else [f'text of {len(text)} bytes: {text[:1500]!r}']
+    return [f'{len(names)} bytes of names: ' + ' '.join(entries[:30]), *behind]
+
+
 def pairs_text(call):
     """The set and the pairs."""
     head, table = call.head, call.table
@@ -183,7 +199,7 @@ def given_text(call):
         return pairs_text(call) + ([f'job {head[13]}'] if kind == 14 else [])
     if kind == 9:
         return buffer_text(call)
-    return []
+    return names_text(call) if kind in (18, 19) else []
 
 
 def batches_text(call):
@@ -222,6 +238,6 @@ def call_text(call):
         lines = batches_text(call)
     else:
         lines = table_text(call) + given_text(call)
-    if kind in (2, 3, 4, 5, 6, 7, 14):
+    if kind in (2, 3, 4, 5, 6, 7, 14, 18, 19):
         lines.append(f'{head[10]} elements lent, filled with {head[11]:02x}')
     return '\n'.join([f'{kind} {name}'] + ['  ' + line for line in lines])

@@ -4,7 +4,7 @@ from collections import namedtuple
 from dataclasses import replace
 from itertools import combinations
 
-from call import TRAILER, Call, Job, marked
+from call import NAME, TRAILER, Call, Job, marked
 from tables import (LAST_BOUND, LAST_RELEASE, LONGEST, MOST_JOBS, NAMED, OUT, chain, drawn_table, house, jobs_in,
                     landing, large_table, last_end, on_time, planned, random_table, some_facts, some_landing, tower, trolley,
                     word)
@@ -12,16 +12,28 @@ from tables import (LAST_BOUND, LAST_RELEASE, LONGEST, MOST_JOBS, NAMED, OUT, ch
 PAIR_TABLE = 552
 RECORD = 32
 OFFERED, TABLED = (1, 4, 5), (1, 2, 3, 4, 5, 6, 7, 8, 9)
-SETTLE, FOLLOW, WHY_START, WHY_NO_PLAN, HOW_LATE, BATCHES = 7, 13, 14, 15, 16, 17
-SETTLING = SETTLE, WHY_START
+SETTLE, FOLLOW, WHY_START, WHY_NO_PLAN, HOW_LATE, BATCHES, READ_TEXT, WRITE_TEXT = 7, 13, 14, 15, 16, 17, 18, 19
+SETTLING, TEXTS = (SETTLE, WHY_START), (READ_TEXT, WRITE_TEXT)
 # The kinds that take a plan's starts, and those of the last ones that fill no memory.
-STARTED, UNFILLED = (*OFFERED, FOLLOW, HOW_LATE), (FOLLOW, WHY_NO_PLAN, HOW_LATE)
+STARTED, UNFILLED = (*OFFERED, FOLLOW, HOW_LATE, WRITE_TEXT), (FOLLOW, WHY_NO_PLAN, HOW_LATE)
+# The most bytes of a line that is written.
+LINE = 39
 MOST = 2 ** 64 - 1
 
 
 def room_needed(kind, count):
     """Elements of the lent output table."""
-    return {4: 64 * (count + 1), 5: PAIR_TABLE, **dict.fromkeys((1, 8, 9, *UNFILLED), 0)}.get(kind, count)
+    return {4: 64 * (count + 1), 5: PAIR_TABLE, WRITE_TEXT: LINE * count, **dict.fromkeys((1, 8, 9, *UNFILLED), 0)}.get(kind, count)
+
+
+def name_table(names):
+    """16 bytes a name, with zeros behind; a name may be bytes that no name has."""
+    return b''.join((name if isinstance(name, bytes) else name.encode()).ljust(NAME, b'\0') for name in names)
+
+
+def numbered(count):
+    """A name a job."""
+    return name_table(f'job-{number}' for number in range(count))
 
 
 def save_bytes(jobs, count, atoms, opening, goals, bound, distance, notes=b''):
@@ -45,6 +57,7 @@ class Draft:
         self.lent = [Job(0x1111, 0x2222, 0x4444, 77)] * self.count
         self.room, self.fill = room_needed(kind, self.count), 0 if kind in UNFILLED else 0xab
         self.started = self.finished = self.event = self.job = self.most = 0
+        self.names, self.text = numbered(self.count) if kind in TEXTS else b'', b''
 
     def file(self):
         distance = RECORD * self.count + len(self.notes)
@@ -52,8 +65,10 @@ class Draft:
         return self.before + save_bytes(self.jobs, *numbers, self.notes)
 
     def given(self):
+        if self.kind == READ_TEXT:
+            return self.names + self.text
         if self.kind in STARTED:
-            return struct.pack(f'<{len(self.starts)}H', *self.starts)
+            return self.names + struct.pack(f'<{len(self.starts)}H', *self.starts)
         if self.kind in SETTLING:
             return b''.join(bytes(pair) for pair in self.pairs) + self.behind
         return {8: self.file, 9: lambda: self.buffer}.get(self.kind, bytes)()
@@ -63,7 +78,8 @@ class Draft:
         if self.kind == 8:
             return Call([8] + [0] * 7 + [len(self.lent), len(given)], self.lent, given)
         settling = dict.fromkeys(SETTLING, (self.set, self.pair_count))
-        six, seven = {**settling, 9: (self.used, 0), FOLLOW: (self.started, self.finished)}.get(self.kind, (0, 0))
+        named = dict.fromkeys(TEXTS, (len(self.names), 0))
+        six, seven = {**settling, **named, 9: (self.used, 0), FOLLOW: (self.started, self.finished)}.get(self.kind, (0, 0))
         head = [self.kind, self.count, marked(self.atoms, self.gap), self.opening, self.goals, self.bound, six, seven,
                 len(self.jobs), len(given), self.room, self.fill, self.most if self.kind == HOW_LATE else self.event, self.job]
         return Call(head, self.jobs, given)
@@ -90,6 +106,7 @@ def short_given(draft, dice, place):
     draft.starts = draft.starts[:-1]
     draft.pair_count += 1 if draft.kind in SETTLING else 0
     draft.behind = bytes(1) if draft.kind in SETTLING else b''
+    draft.names = draft.names[:-1] if draft.kind == READ_TEXT else draft.names
 
 
 def bad_atoms(draft, dice, place):
@@ -111,6 +128,7 @@ def many_jobs(draft, dice, place):
     draft.room = room_needed(draft.kind, draft.count)
     draft.lent = [Job(1, 2, 4, 8)] * dice.choice((draft.count, draft.count, 255, MOST_JOBS))
     draft.buffer = bytes(RECORD * draft.count + TRAILER + draft.used)
+    draft.names = numbered(draft.count) if draft.kind in TEXTS else b''
 
 
 def huge_count(draft, dice, place):

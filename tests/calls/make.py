@@ -20,6 +20,7 @@ import reasons
 import releases
 import rounds
 import settlings
+import texts
 import tidies
 from call import Call, Job
 from draft import (FAULTS, HYGIENE, LATE, OFFERED, ON_TIME, TABLED, Draft, base_draft, cut_to_limits, each_fault, landed,
@@ -37,6 +38,7 @@ FOLLOW_SEED, FOLLOW_DRAWN = 20110725, 100
 REASON_SEED, REASON_DRAWN = 20120725, 150
 LATENESS_SEED, LATENESS_DRAWN = 20130725, 150
 BATCHES_SEED, BATCHES_DRAWN = 20140725, 100
+TEXTS_SEED, TEXTS_DRAWN = 20150725, 200
 
 
 # Planning.
@@ -198,7 +200,7 @@ def mixed(seed, walks, count=0, crates=ON_TIME):
 def corpus():
     """The fixed calls: those that stood before there were releases, unchanged, behind them those with releases, those
     under rule 2, those on clashes, those beside halves of a tenth, estimates that take many rounds, files to tidy, plans to
-    follow, those that ask for reasons, those that ask how late it can get, and last batches."""
+    follow, those that ask for reasons, those that ask how late it can get, batches, and last plans as text."""
     return (mixed(SEED, WALKS, DRAWN, ON_TIME) + mixed(LATE_SEED, releases.WALKS, LATE_DRAWN, LATE)
             + mixed(GAP_SEED, gaps.WALKS, GAP_DRAWN, HYGIENE) + mixed(CLASH_SEED, clashes.WALKS)
             + mixed(TENTHS_SEED, (readings.beside_halves,)) + mixed(ROUNDS_SEED, rounds.WALKS)
@@ -206,13 +208,14 @@ def corpus():
             + mixed(FOLLOW_SEED, (*follows.WALKS, several(follows.drawn, FOLLOW_DRAWN)))
             + mixed(REASON_SEED, (*reasons.WALKS, several(reasons.drawn, REASON_DRAWN)))
             + mixed(LATENESS_SEED, (*lateness.WALKS, several(lateness.drawn, LATENESS_DRAWN)))
-            + mixed(BATCHES_SEED, (*batches.WALKS, several(batches.drawn, BATCHES_DRAWN))))
+            + mixed(BATCHES_SEED, (*batches.WALKS, several(batches.drawn, BATCHES_DRAWN)))
+            + mixed(TEXTS_SEED, (*texts.WALKS, several(texts.drawn, TEXTS_DRAWN))))
 
 
 def more(count, seed):
     """A tenth of the calls on clashes, one in fifty beside halves of a tenth, one in fifty for estimates that take many rounds, one in
-    twenty each on files to tidy, on plans to follow, for reasons and for how late it can get, one in fifty on batches; of the others half
-    under rule 2, half of all on tables with releases."""
+    twenty each on files to tidy, on plans to follow, for reasons and for how late it can get, one in fifty each on batches and on plans as
+    text; of the others half under rule 2, half of all on tables with releases."""
     dice = random.Random(seed)
     for _ in range(count):
         chance = dice.random()
@@ -232,6 +235,8 @@ def more(count, seed):
             yield lateness.drawn(dice)
         elif chance < 0.36:
             yield batches.drawn(dice)
+        elif chance < 0.38:
+            yield texts.drawn(dice)
         else:
             yield from drawn(dice, 1, dice.choice((ON_TIME, LATE, HYGIENE, HYGIENE)))
 

@@ -11,6 +11,7 @@ use crate::reasons::{why_no_plan, why_start, Reason};
 use crate::rules::{
     binding_pairs, check_offered, clash, estimates, settle, supports, Clash, Given, Job, Refusal, FACTS, OUT,
 };
+use crate::texts::{read_text, write_text};
 use std::io::{self, BufRead, Read, Write};
 
 const WORDS: usize = 16;
@@ -138,6 +139,11 @@ impl Call {
         vec![u16::from_le_bytes([self.head[11] as u8; 2]); self.head[10] as usize]
     }
 
+    /// The name table, and what is given behind it.
+    fn names_and_rest(&self) -> (&[u8], &[u8]) {
+        self.table.split_at((self.head[6] as usize).min(self.table.len()))
+    }
+
     fn most_overrun(&self) -> u16 {
         self.head[12] as u16
     }
@@ -170,6 +176,17 @@ impl Call {
             15 => self.answer_no_plan(),
             16 => told(&how_late(&self.given(), &halves(&self.table), self.most_overrun()), 0),
             17 => self.answer_in_records(|lent| told_batches(&enter(&self.table, lent))),
+            18 => self.answer_in_halves(
+                |table| {
+                    let (names, text) = self.names_and_rest();
+                    read_text(&self.given(), names, text, table).map(|_| 0)
+                },
+                0,
+            ),
+            19 => self.answer_in_bytes(|table| {
+                let (names, starts) = self.names_and_rest();
+                write_text(&self.given(), names, &halves(starts), table)
+            }),
             _ => unknown(),
         }
     }

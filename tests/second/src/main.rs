@@ -13,6 +13,7 @@ mod readings;
 mod reasons;
 mod rules;
 mod selftest;
+mod texts;
 
 use std::io::{self, BufReader, BufWriter, Read, Write};
 use std::process::ExitCode;

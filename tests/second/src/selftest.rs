@@ -15,6 +15,7 @@ use crate::rules::{
     job_estimates, jobs_in, members, pairs_of, settle, supports, Clash, Given, Job, Problem, Refusal,
     NO_SUPPORT, OUT, START,
 };
+use crate::texts::{read_text, write_text};
 use crate::{bench, rules};
 use std::process::ExitCode;
 
@@ -64,6 +65,7 @@ pub fn run() -> ExitCode {
     test_why_no_plan(&mut tally);
     test_how_late(&mut tally);
     test_batches(&mut tally);
+    test_texts(&mut tally);
     test_gap_as_length(&mut tally);
     test_table_checks(&mut tally);
     test_rule_marks(&mut tally);
@@ -1662,6 +1664,478 @@ fn as_lent(lent: &[Job], from: usize) -> bool {
     lent[from..].iter().all(|job| *job == all_facts())
 }
 
+/// P3's plan as it is written, with its names.
+const P3_TEXT: &str =
+    "0.000: (unpack) [4.000]\n4.000: (warm) [8.000]\n4.000: (wash) [3.000]\n7.000: (drench) [2.000]\n";
+const P3_NAMES: [&str; 4] = ["unpack", "drench", "warm", "wash"];
+const P3_STARTS: [u16; 4] = [0, 7, 4, 4];
+
+fn p3() -> Example {
+    jobs_u(&[2, 3, 4], 12)
+}
+
+/// The name table of these names.
+fn table_of_names(names: &[impl AsRef<str>]) -> Vec<u8> {
+    let entry = |name: &str| {
+        let mut bytes = name.as_bytes().to_vec();
+        bytes.resize(16, 0);
+        bytes
+    };
+    names.iter().flat_map(|name| entry(name.as_ref())).collect()
+}
+
+/// What is read, one start lent a job.
+fn read_of(example: &Example, names: &[u8], text: &[u8]) -> Result<Vec<u16>, Refusal> {
+    let mut starts = vec![7; example.jobs.len()];
+    let result = read_text(&example.given(), names, text, &mut starts);
+    if result.is_err() && starts.iter().any(|&start| start != 7) {
+        return refused(0, 0);
+    }
+    result.map(|_| starts)
+}
+
+/// What is written, 39 bytes lent a job.
+fn written_of(example: &Example, names: &[u8], starts: &[u16]) -> Result<Vec<u8>, Refusal> {
+    let mut text = vec![165; 39 * example.jobs.len()];
+    match write_text(&example.given(), names, starts, &mut text) {
+        Ok(length) => {
+            let behind = text.split_off(length as usize);
+            behind.iter().all(|&byte| byte == 165).then_some(text).ok_or(Refusal {
+                number: 0,
+                second: 0,
+                place: 0,
+            })
+        }
+        Err(_) if text.iter().any(|&byte| byte != 165) => refused(0, 0),
+        Err(refusal) => Err(refusal),
+    }
+}
+
+/// A byte a character, so that any bytes can be looked at as text.
+fn as_text(bytes: &[u8]) -> String {
+    bytes.iter().map(|&byte| byte as char).collect()
+}
+
+/// A number read another way: cut at its point.
+fn number_of(text: &str) -> Option<u16> {
+    let (whole, zeros) = text.split_once('.').unwrap_or((text, "0"));
+    let only =
+        |text: &str, wanted: &str| !text.is_empty() && text.chars().all(|letter| wanted.contains(letter));
+    (only(zeros, "0") && only(whole, "0123456789") && whole.len() <= 4)
+        .then(|| whole.parse().expect("digits"))
+}
+
+/// A line read another way: cut at what stands between its parts.
+fn parts_of(line: &str) -> Option<(u16, &str, u16)> {
+    let (start, behind) = line.split_once(": (")?;
+    let (name, behind) = behind.split_once(") [")?;
+    let (start, duration) = (number_of(start)?, number_of(behind.strip_suffix(']')?)?);
+    let allowed = |letter| "abcdefghijklmnopqrstuvwxyz0123456789-".contains(letter);
+    let named = (1..17).contains(&name.len()) && name.chars().all(allowed);
+    (named && start < 2_881).then_some((start, name, duration))
+}
+
+/// The whole read another way: every line is cut first, each gets the numbers of all that is wrong with it, and what a job
+/// starts at is looked up in the end.
+fn read_by_parts(example: &Example, names: &[&str], text: &[u8]) -> Result<Vec<u16>, Refusal> {
+    let text = as_text(text);
+    let mut lines: Vec<&str> = text.split('\n').collect();
+    let unended = lines.pop().filter(|last| !last.is_empty());
+    let steps: Vec<Option<(u16, &str, u16)>> =
+        lines.into_iter().map(parts_of).chain(unended.map(|_| None)).collect();
+    for (number, step) in steps.iter().enumerate() {
+        let known = |&(_, name, _): &(u16, &str, u16)| names.iter().position(|&other| other == name);
+        let again =
+            |&(_, name, _): &(u16, &str, u16)| steps[..number].iter().flatten().any(|step| step.1 == name);
+        let job = step.as_ref().and_then(known);
+        let wrong = [
+            (23, step.is_none()),
+            (24, job.is_none()),
+            (25, step.as_ref().is_some_and(again)),
+            (26, job.is_some_and(|job| step.is_some_and(|step| step.2 != example.jobs[job].duration))),
+        ];
+        if let Some((number_of_refusal, _)) = wrong.into_iter().find(|&(_, holds)| holds) {
+            return refused(number_of_refusal, number as u64);
+        }
+    }
+    let start_of =
+        |name: &&str| steps.iter().flatten().find(|step| step.1 == *name).map_or(OUT, |step| step.0);
+    Ok(names.iter().map(start_of).collect())
+}
+
+/// Plans as text: the numbers and examples of change request Eight, then damages and drawn plans against the other reader.
+fn test_texts(tally: &mut Tally) {
+    test_text_of_p3(tally);
+    test_number_forms(tally);
+    test_lines(tally);
+    test_damaged_texts(tally);
+    test_name_tables(tally);
+    test_text_orders(tally);
+    test_drawn_texts(tally);
+    test_text_refusals(tally);
+    test_lent_for_texts(tally);
+    test_long_texts(tally);
+}
+
+/// Reads one text both ways.
+fn check_reading(tally: &mut Tally, example: &Example, names: &[&str], text: &[u8]) {
+    let found = read_of(example, &table_of_names(names), text);
+    tally.same(&format!("text {:?}", as_text(text)), found, read_by_parts(example, names, text));
+}
+
+fn test_text_of_p3(tally: &mut Tally) {
+    let names = table_of_names(&P3_NAMES);
+    tally.same("P3 has 92 bytes", P3_TEXT.len(), 92);
+    tally.same("P3 as text", written_of(&p3(), &names, &P3_STARTS), Ok(P3_TEXT.as_bytes().to_vec()));
+    tally.same("P3 read", read_of(&p3(), &names, P3_TEXT.as_bytes()), Ok(P3_STARTS.to_vec()));
+    tally.same("nothing read", read_of(&p3(), &names, b""), Ok(vec![OUT; 4]));
+    let none = jobs_u(&[0], 0);
+    tally.same("nothing written", written_of(&none, &names, &[OUT; 4]), Ok(vec![]));
+    let no_jobs = Example { jobs: vec![], atoms: 2, opening: 1, goals: 0, bound: 0 };
+    tally.same("no jobs written", written_of(&no_jobs, &[], &[]), Ok(vec![]));
+    tally.same("no jobs read", read_of(&no_jobs, &[], b""), Ok(vec![]));
+    tally.same("a line for no job", read_of(&no_jobs, &[], P3_TEXT.as_bytes()), refused(24, 0));
+}
+
+/// Numbers in the form and outside it, as a start and as a duration.
+fn test_number_forms(tally: &mut Tally) {
+    let zeros = format!("4.{}", "0".repeat(5_000));
+    let fours = ["4", "04", "004", "0004", "4.0", "04.00", "0004.000", "4.000000", &zeros];
+    let others = [
+        "", "00004", "4.", ".0", ".", "4.01", "4.10", "4.0.0", "4..0", "4,0", "+4", "-4", " 4", "4 ", "4e0",
+        "4.0 ", "4. 0", "0x4", "four", "12345", "99999", "4\0", "4.0\0",
+    ];
+    let names = table_of_names(&P3_NAMES);
+    let read = |text: String| read_of(&p3(), &names, text.as_bytes());
+    for four in fours {
+        let [start, duration] =
+            [read(format!("{four}: (warm) [8]\n")), read(format!("9: (unpack) [{four}]\n"))];
+        tally.same(four, start, Ok(vec![OUT, OUT, 4, OUT]));
+        tally.same(four, duration, Ok(vec![9, OUT, OUT, OUT]));
+    }
+    for other in others {
+        tally.same(other, read(format!("{other}: (warm) [8]\n")), refused(23, 0));
+        tally.same(other, read(format!("0: (wash) [3]\n9: (unpack) [{other}]\n")), refused(23, 1));
+    }
+    for start in 0..10_000u16 {
+        let wanted = if start <= 2_880 { Ok(vec![start, OUT, OUT, OUT]) } else { refused(23, 0) };
+        tally.same("every start", read(format!("{start}: (unpack) [4]\n")), wanted);
+        let wanted = if start == 4 { Ok(vec![5, OUT, OUT, OUT]) } else { refused(26, 0) };
+        tally.same("every duration", read(format!("5: (unpack) [{start}.0]\n")), wanted);
+    }
+}
+
+/// Lines by the readings of the request: names, ends, a job twice; the lowest number of a line, the first bad line.
+fn test_lines(tally: &mut Tally) {
+    let sixteen = "abcdefghij-01234";
+    let example = Example { jobs: vec![job(&[], &[0], &[], 4); 2], atoms: 1, opening: 0, goals: 0, bound: 9 };
+    let names = table_of_names(&[sixteen, "-"]);
+    let cases = [
+        ("0: (abcdefghij-01234) [4]\n", Ok(vec![0, OUT])),
+        ("0: (abcdefghij-0123) [4]\n", refused(24, 0)),
+        ("0: (abcdefghij-012345) [4]\n", refused(23, 0)),
+        ("0: (Abcdefghij-01234) [4]\n", refused(23, 0)),
+        ("0: () [4]\n", refused(23, 0)),
+        ("0: (a_b) [4]\n", refused(23, 0)),
+        ("0: (-) [4]", refused(23, 0)),
+        ("0: (-) [4]\n\n", refused(23, 1)),
+        ("\n0: (-) [4]\n", refused(23, 0)),
+        ("0: (-) [4]\r\n", refused(23, 0)),
+        (" 0: (-) [4]\n", refused(23, 0)),
+        ("0: (-) [4]\n0: (-) [4]\n", refused(25, 1)),
+        ("0: (-) [4]\n9: (-) [4]\n", refused(25, 1)),
+        ("0: (-) [4]\n9: (-) [5]\n", refused(25, 1)),
+        ("0: (-) [961]\n", refused(26, 0)),
+        ("0: (-) [0]\n", refused(26, 0)),
+        ("2881: (b) [5]\n", refused(23, 0)),
+        ("2880: (b) [5]\n", refused(24, 0)),
+        ("2880: (-) [5]\n", refused(26, 0)),
+        ("1: (-) [5]\n1: (b) [4]\n2881: (-) [4]\n", refused(26, 0)),
+        ("1: (b) [4]\nx", refused(24, 0)),
+        ("1: (-) [4]\n9: (abcdefghij-01234) [4]\n", Ok(vec![9, 1])),
+    ];
+    for (text, wanted) in cases {
+        tally.same(text, read_of(&example, &names, text.as_bytes()), wanted);
+    }
+}
+
+/// Every byte of P3's text replaced by every other, dropped, doubled, and every byte put in at every place; cut anywhere.
+fn test_damaged_texts(tally: &mut Tally) {
+    let text = P3_TEXT.as_bytes();
+    for place in 0..text.len() {
+        let (before, behind) = text.split_at(place);
+        check_reading(tally, &p3(), &P3_NAMES, before);
+        check_reading(tally, &p3(), &P3_NAMES, &[before, &behind[1..]].concat());
+        for byte in 0..=255 {
+            check_reading(tally, &p3(), &P3_NAMES, &[before, &[byte], &behind[1..]].concat());
+            check_reading(tally, &p3(), &P3_NAMES, &[before, &[byte], behind].concat());
+        }
+    }
+}
+
+/// The lowest job whose name is bad, looked at as text without the zeros at its end.
+fn bad_name(table: &[u8], jobs: usize) -> Option<usize> {
+    let names: Vec<String> =
+        table.chunks(16).take(jobs).map(|entry| as_text(entry).trim_end_matches('\0').to_string()).collect();
+    let allowed = |letter: char| letter == '-' || letter.is_ascii_digit() || letter.is_ascii_lowercase();
+    let alike = |name: &String| names.iter().filter(|&other| other == name).count() != 1;
+    names.iter().position(|name| name.is_empty() || !name.chars().all(allowed) || alike(name))
+}
+
+/// Every byte of two name tables replaced by every other; every two jobs alike; what stands behind the names.
+fn test_name_tables(tally: &mut Tally) {
+    let check = |tally: &mut Tally, example: &Example, starts: &[u16], table: &[u8]| {
+        let bad = bad_name(table, example.jobs.len());
+        let wanted = bad.map_or(Ok(()), |job| refused(33, job as u64));
+        let read = read_of(example, table, b"").map(|_| ());
+        tally.same("name table in reading", read, wanted);
+        tally.same(
+            "name table before a line",
+            read_of(example, table, b"x").err().map(|r| r.number),
+            Some(if bad.is_some() { 33 } else { 23 }),
+        );
+        tally.same("name table in writing", written_of(example, table, starts).map(|_| ()), wanted);
+    };
+    for names in [P3_NAMES, ["a", "aa", "abcdefghijklmnop", "abcdefghijklmnoq"]] {
+        let table = table_of_names(&names);
+        for (place, byte) in (0..table.len()).flat_map(|place| (0..=255).map(move |byte| (place, byte))) {
+            let mut other = table.clone();
+            other[place] = byte;
+            check(tally, &p3(), &P3_STARTS, &other);
+        }
+    }
+    let many = Example { jobs: vec![job(&[], &[0], &[], 1); 24], atoms: 1, opening: 0, goals: 0, bound: 0 };
+    let names: Vec<String> = (0..24).map(|job| format!("job-{job}")).collect();
+    for (one, other) in (0..24).flat_map(|one| (0..one).map(move |other| (one, other))) {
+        let mut names = names.clone();
+        names[one] = names[other].clone();
+        let table = table_of_names(&names);
+        tally.same("two alike", read_of(&many, &table, b""), refused(33, other as u64));
+        check(tally, &many, &[OUT; 24], &table);
+    }
+    let behind = [table_of_names(&P3_NAMES), table_of_names(&["wash", "", "WASH"]), vec![1; 7]].concat();
+    tally.same("names behind", read_of(&p3(), &behind, P3_TEXT.as_bytes()), Ok(P3_STARTS.to_vec()));
+}
+
+/// All orders of P3's lines give the same plan, and the first two alone that of two jobs.
+fn test_text_orders(tally: &mut Tally) {
+    let lines: Vec<&str> = P3_TEXT.split_inclusive('\n').collect();
+    let names = table_of_names(&P3_NAMES);
+    let mut orders = 0;
+    for code in 0..256 {
+        let order = [code & 3, code >> 2 & 3, code >> 4 & 3, code >> 6 & 3];
+        let text: String = order.iter().map(|&line| lines[line]).collect();
+        let again = (1..4).find(|&line| order[..line].contains(&order[line]));
+        let wanted = again.map_or(Ok(P3_STARTS.to_vec()), |line| refused(25, line as u64));
+        orders += again.is_none() as u64;
+        tally.same("lines in any order", read_of(&p3(), &names, text.as_bytes()), wanted);
+    }
+    tally.same("orders of four lines", orders, 24);
+    let two = read_of(&p3(), &names, lines[..2].concat().as_bytes());
+    tally.same("two lines", two, Ok(vec![0, OUT, 4, OUT]));
+}
+
+/// Different names of one to sixteen letters.
+fn drawn_names(dice: &mut Dice, count: usize) -> Vec<String> {
+    let letters = "abcdefghijklmnopqrstuvwxyz0123456789-".as_bytes();
+    let mut names: Vec<String> = Vec::new();
+    while names.len() < count {
+        let length = 1 + dice.below(16);
+        let name: String = (0..length).map(|_| letters[dice.below(37) as usize] as char).collect();
+        if !names.contains(&name) {
+            names.push(name);
+        }
+    }
+    names
+}
+
+/// Drawn plans written: the lines are those of the jobs that are in, by start, then job; read back, also mixed and with
+/// other zeros, they give the plan; damaged they are read as the other reader does.
+fn test_drawn_texts(tally: &mut Tally) {
+    let mut dice = Dice(0x0e18_2025_7e87_0711);
+    for round in 0..300 {
+        let (jobs, longest) = ([3, 9, 24][round % 3], [9, 120, 960][round / 3 % 3]);
+        let example = Example { bound: 2_880, goals: 0, ..dice.table(jobs, 40, longest, 0) };
+        for (what, example) in dice.in_every_way(&example, 700) {
+            let problem = check_bounded_table(&example.given()).expect("a table in order");
+            let starts = dice.plan(&problem);
+            let names = drawn_names(&mut dice, starts.len());
+            let names: Vec<&str> = names.iter().map(|name| &name[..]).collect();
+            check_drawn_text(tally, &mut dice, what, &example, &names, &starts);
+        }
+    }
+}
+
+fn check_drawn_text(
+    tally: &mut Tally,
+    dice: &mut Dice,
+    what: &str,
+    example: &Example,
+    names: &[&str],
+    starts: &[u16],
+) {
+    let table = table_of_names(names);
+    let written = written_of(example, &table, starts).expect("a valid plan");
+    let mut inside: Vec<usize> = jobs_in(starts).collect();
+    let steps: Vec<(u16, usize)> = as_text(&written)
+        .lines()
+        .map(|line| {
+            let (start, name, _) = parts_of(line).expect("a line in the form");
+            (start, names.iter().position(|&other| other == name).expect("a known name"))
+        })
+        .collect();
+    tally.check(&format!("by start, then job{what}"), steps.is_sorted());
+    inside.sort_by_key(|&job| (starts[job], job));
+    tally.same(
+        "just the jobs that are in",
+        steps.into_iter().map(|(_, job)| job).collect::<Vec<_>>(),
+        inside,
+    );
+    tally.same("read back", read_of(example, &table, &written), Ok(starts.to_vec()));
+    let mut lines: Vec<String> =
+        as_text(&written).split_inclusive('\n').map(|line| line.to_string()).collect();
+    for place in (1..lines.len()).rev() {
+        lines.swap(place, dice.below(place as u64 + 1) as usize);
+    }
+    let zeros = [".000", "", ".0", ".00000"][dice.below(4) as usize];
+    let mixed = lines.concat().replace(".000", zeros);
+    tally.same("read back, mixed", read_of(example, &table, mixed.as_bytes()), Ok(starts.to_vec()));
+    for _ in 0..6 {
+        let mut damaged = mixed.clone().into_bytes();
+        for _ in 0..=dice.below(2) {
+            let place = dice.below(damaged.len() as u64 + 1) as usize;
+            let byte = DAMAGES[dice.below(DAMAGES.len() as u64) as usize];
+            match (damaged.get_mut(place), dice.below(3)) {
+                (Some(old), 0) => *old = byte,
+                (Some(_), 1) => drop(damaged.remove(place)),
+                _ => damaged.insert(place, byte),
+            }
+        }
+        check_reading(tally, example, names, &damaged);
+    }
+}
+
+/// The bytes that texts are damaged with.
+const DAMAGES: &[u8] = b"0123456789.: ()[]abcZ-\n\0\xff";
+
+/// What is refused before the names, and what behind them.
+fn test_text_refusals(tally: &mut Tally) {
+    let (good, bad) = (table_of_names(&P3_NAMES), table_of_names(&["a", "b", "a", "b"]));
+    let moved = |job: usize, start: u16| {
+        let mut starts = P3_STARTS;
+        starts[job] = start;
+        starts
+    };
+    let plans: [(Example, [u16; 4], Result<Vec<u8>, Refusal>); 6] = [
+        (jobs_u(&[2, 3, 4], 11), P3_STARTS, refused(11, 2)),
+        (p3().released(&[0, 0, 5, 0]), P3_STARTS, refused(21, 2)),
+        (p3(), moved(1, 6), overlapping(1, 2)),
+        (p3(), moved(0, OUT), refused(13, 1)),
+        (p3(), moved(3, OUT), refused(14, 4)),
+        (p3().under_rule_2(), P3_STARTS, overlapping(1, 2)),
+    ];
+    for (example, starts, wanted) in plans {
+        for names in [&good, &bad] {
+            tally.same("a plan that is not valid", written_of(&example, names, &starts), wanted.clone());
+        }
+        let text = "0: (wash) [3]\n";
+        tally.same(
+            "reading looks at no plan",
+            read_of(&example, &good, text.as_bytes()),
+            Ok(vec![OUT, OUT, OUT, 0]),
+        );
+    }
+    tally.same("33 behind a valid plan", written_of(&p3(), &bad, &P3_STARTS), refused(33, 0));
+    let late = Example { bound: 2_881, ..p3() };
+    tally.same("9 in writing", written_of(&late, &bad, &P3_STARTS), refused(9, 0));
+    tally.same("no 9 in reading", read_of(&late, &good, P3_TEXT.as_bytes()), Ok(P3_STARTS.to_vec()));
+    let last = Example { bound: 65_535, ..p3() };
+    tally.same("no bound at all", read_of(&last, &good, P3_TEXT.as_bytes()), Ok(P3_STARTS.to_vec()));
+    let mut tables = vec![
+        (p3().released(&[2_881]), 20, 0),
+        (Example { atoms: 0, ..p3() }, 4, 0),
+        (Example { atoms: 65, ..p3() }, 4, 0),
+    ];
+    tables.extend([(Example { atoms: 4, ..p3() }, 7, 3), (Example { opening: 32, ..p3() }, 7, 24)]);
+    for (field, number) in [(0, 6), (961, 6)] {
+        let mut example = p3();
+        example.jobs[1].duration = field;
+        tables.push((example, number, 1));
+    }
+    let mut both = p3();
+    both.jobs[2].deletions = both.jobs[2].additions;
+    tables.push((both, 8, 2));
+    for (example, number, place) in tables {
+        tally.same("33 behind the table", read_of(&example, &bad, b"x"), refused(number, place));
+        tally.same("33 behind the table", written_of(&example, &bad, &P3_STARTS), refused(number, place));
+    }
+}
+
+/// One byte too few of each thing that is lent, just enough, and more; counts that nothing serves; 25 jobs.
+fn test_lent_for_texts(tally: &mut Tally) {
+    let names = table_of_names(&P3_NAMES);
+    let example = p3();
+    for (records, lent, starts, room) in
+        [(4, 64, 4, 156), (3, 64, 4, 156), (4, 63, 4, 156), (4, 64, 3, 156), (4, 64, 4, 155), (4, 0, 4, 156)]
+    {
+        let given = Given { records: &example.jobs[..records], ..example.given() };
+        let whole = (records, lent, starts, room) == (4, 64, 4, 156);
+        let (mut table, mut text) = (vec![9; starts], vec![165; room]);
+        let read = read_text(&given, &names[..lent], P3_TEXT.as_bytes(), &mut table);
+        tally.same("lent for reading", read, if whole || room == 155 { Ok(()) } else { refused(3, 0) });
+        let written = write_text(&given, &names[..lent], &P3_STARTS[..starts], &mut text);
+        tally.same("lent for writing", written, if whole { Ok(92) } else { refused(3, 0) });
+    }
+    let (mut table, mut text) = ([9; 6], [165; 200]);
+    tally.same(
+        "more lent",
+        read_text(&example.given(), &[&names[..], &[1; 33]].concat(), P3_TEXT.as_bytes(), &mut table),
+        Ok(()),
+    );
+    tally.same("places behind", table, [0, 7, 4, 4, 9, 9]);
+    tally.same(
+        "more lent",
+        write_text(&example.given(), &[&names[..], &[1; 33]].concat(), &[0, 7, 4, 4, 1], &mut text),
+        Ok(92),
+    );
+    tally.check("bytes behind", text[92..].iter().all(|&byte| byte == 165));
+    for count in [5, 1 << 60, 1 << 61, 1 << 63, u64::MAX] {
+        let given = Given { count, ..example.given() };
+        tally.same("huge count", read_text(&given, &names, b"x", &mut [9; 9]), refused(3, 0));
+        tally.same("huge count", write_text(&given, &names, &[OUT; 9], &mut [9; 400]), refused(3, 0));
+    }
+    let many = Example { jobs: vec![job(&[], &[0], &[], 1); 25], atoms: 1, opening: 0, goals: 0, bound: 0 };
+    tally.same("25 jobs read", read_of(&many, &[0; 400], b"x"), refused(5, 0));
+    tally.same("25 jobs written", written_of(&many, &[0; 400], &[OUT; 25]), refused(5, 0));
+}
+
+/// Lines as long as can be written; texts with more lines than jobs; very long texts.
+fn test_long_texts(tally: &mut Tally) {
+    let names: Vec<String> = (0..24).map(|job| format!("name-of-letter-{}", (b'a' + job) as char)).collect();
+    let table = table_of_names(&names);
+    let example =
+        Example { jobs: vec![job(&[], &[0], &[], 100); 24], atoms: 1, opening: 0, goals: 1, bound: 2_880 };
+    let starts: Vec<u16> = (0..24).map(|job| 2_780 - job).collect();
+    let written = written_of(&example, &table, &starts).expect("a valid plan");
+    tally.same("39 bytes a line", written.len(), 24 * 39);
+    tally.same("read back", read_of(&example, &table, &written), Ok(starts));
+    let first = written[..39].to_vec();
+    tally.same(
+        "a line too many",
+        read_of(&example, &table, &[&written[..], &first].concat()),
+        refused(25, 24),
+    );
+    let strange = [&written[..], b"0: (other) [100]\n"].concat();
+    tally.same("a strange line too many", read_of(&example, &table, &strange), refused(24, 24));
+    let zeros = "0".repeat(70_000);
+    let long = |text: String| read_of(&p3(), &table_of_names(&P3_NAMES), text.as_bytes());
+    tally.same("70,000 zeros", long(format!("4.{zeros}: (warm) [8.{zeros}]\n")), Ok(vec![OUT, OUT, 4, OUT]));
+    tally.same("70,000 zeros and a one", long(format!("4.{zeros}1: (warm) [8]\n")), refused(23, 0));
+    tally.same("70,000 digits", long(format!("{zeros}4: (warm) [8]\n")), refused(23, 0));
+    tally.same("70,000 letters", long(format!("4: ({zeros}) [8]\n")), refused(23, 0));
+    tally.same("70,000 bytes without an end", long(format!("{P3_TEXT}{zeros}")), refused(23, 4));
+}
+
 /// The gap in other words: under rule 2 all is answered as under rule 1 with each job and the bound a quarter hour
 /// longer. The plans are the first ones, some with a job moved, and any at all.
 fn test_gap_as_length(tally: &mut Tally) {
@@ -2131,6 +2605,15 @@ fn test_calls(tally: &mut Tally) {
         (entering[0], entering[8], entering[9]) = (17, lent as u64, groups.len() as u64);
         stream.extend(call_bytes(entering, &vec![own; lent], groups));
     }
+    let names = table_of_names(&P3_NAMES);
+    let text = [&names[..], P3_TEXT.as_bytes()].concat();
+    for (named, room) in [(64, 5), (63, 4), (64, 3)] {
+        stream.extend(call_bytes(head(18, named, 0, text.len() as u64, room, 0xab), &jobs, &text));
+    }
+    let plan = [&names[..], &starts].concat();
+    for (named, room) in [(64, 157), (64, 155), (62, 156)] {
+        stream.extend(call_bytes(head(19, named, 0, 72, room, 0x2d), &jobs, &plan));
+    }
     for (most, bound) in [(0, 12), (1, 12), (96, 12), (97, 12), (65_535, 12), (97, 11)] {
         let mut asking = head(16, 0, 0, 8, 0, 0);
         (asking[5], asking[12]) = (bound, most);
@@ -2174,6 +2657,16 @@ fn test_calls(tally: &mut Tally) {
         &format!("3 0 0 0 0 0 0 {}", hex_of(&[own, own])),
         "28 0 1 0 0 0 0 ",
         &format!("0 0 0 1 0 0 1 {}", hex_of(&[own])),
+        "0 0 0 0 0000070004000400abab",
+        "3 0 0 0 abababababababab",
+        "3 0 0 0 abababababab",
+        &format!(
+            "0 0 0 92 {}{}",
+            P3_TEXT.bytes().map(|byte| format!("{byte:02x}")).collect::<String>(),
+            "2d".repeat(65)
+        ),
+        &format!("3 0 0 0 {}", "2d".repeat(155)),
+        &format!("3 0 0 0 {}", "2d".repeat(156)),
         "0 0 0 12",
         "0 0 0 15",
         "0 0 0 300",
