@@ -213,3 +213,8 @@ other-no i j b e = same (not (eqb i j)) (not (eqb i j) && b) (λ x. absurd (eqb-
 pub names-checks : (names : List ℕ) (n : ℕ) → Checks (namesCheck names n)
 unfolding namesCheck
 names-checks names n = at-checks (λ j. misnamed names j || sharesName names n j) n 33 (omega arith)
+
+-- no name has a zero
+pub zero-no-name : T (not (inName 0))
+unfolding inName isDigit between
+zero-no-name = tt

@@ -6,3 +6,4 @@ pub mod Back
 pub mod Formed
 pub mod Order
 pub mod Exchange
+pub mod Named

@@ -13,6 +13,7 @@ use lib.ListN.{length, drop, length-drop}
 use lib.Seq.{getD-take, getD-drop, length-take-le}
 use Rattle.facts.proofs.Bools.{and-of, certain, eqb-of, not-eqb, or-l, or-r}
 use Rattle.facts.proofs.Least.{lowest, found, any-of}
+use Rattle.facts.proofs.Lists.{getD-past}
 use Rattle.refusals.specs.Refusals.{accepted}
 use Rattle.refusals.proofs.Refused.{at-zero}
 use Rattle.rules.specs.Table.{Problem, between}
@@ -111,7 +112,7 @@ three-zeros n l = record { front = decimal n; zeros = 2; whole = decimal-text n 
 -- ── names ──
 
 module _ (names : List ℕ) (n : ℕ) (checked : namesCheck names n accepted ≡ accepted) (long : 16 * n ≤ length names) (j : ℕ) (l : j < n) where
-  no-fault-at : T (misnamed names j || sharesName names n j) → ⊥
+  pub no-fault-at : T (misnamed names j || sharesName names n j) → ⊥
   unfolding namesCheck
   no-fault-at h = at-zero (λ i. misnamed names i || sharesName names n i) n 33 accepted (omega arith) checked .0 (any-of (λ i. misnamed names i || sharesName names n i) n j l h)
 
@@ -149,6 +150,14 @@ module _ (names : List ℕ) (n : ℕ) (checked : namesCheck names n accepted ≡
     small = λ i h. let m : i < nameSize names j = omega (arith, name-length) in
         subst (λ (c : ℕ). T (inName c)) (sym (name-letters i m)) (certain (inName (letterAt names (16 * j + i))) (lowest (λ k. not (inName (letterAt names (16 * j + k)))) 16 .first i m));
   }
+
+  -- its bytes are the name and zeros
+  pub name-bytes : (i : ℕ) → i < 16 → letterAt names (16 * j + i) ≡ letterAt (nameOf names j) i
+  name-bytes i h = go (decLt i (nameSize names j))
+    where
+      go : Dec (i < nameSize names j) → letterAt names (16 * j + i) ≡ letterAt (nameOf names j) i
+      go (yes m) = sym (name-letters i m)
+      go (no m) = own-letters i h ∙ sym (name-behind names (16 * j) (nameSize names j) i (omega arith)) ∙ sym (getD-past (nameOf names j) i 0 (omega (arith, name-length)))
 
   -- a line with the name names the job
   module _ (text : List ℕ) (at t d end : ℕ) (r : LineRead text at t (nameOf names j) d end) where

@@ -1,9 +1,9 @@
 -- What 02 says of a line, letter by letter, and what the laws say of reading: such lines, and no others, are read, wherever they stand and in any order.
 -- Assumes nothing.
 use mathlib.Core.Path.{_≡_}
-use mathlib.Core.Logic.{_⊎_}
+use mathlib.Core.Logic.{_⊎_, _≢_}
 use mathlib.Core.List.{List, _∷_, _++_}
-use Prim.Native.Nat.{ℕ, suc, _+_, _≤_, _<_}
+use Prim.Native.Nat.{ℕ, suc, _+_, _*_, _≤_, _<_}
 use lib.Dec.{T}
 use lib.ListN.{length, replicate}
 use Rattle.lines.specs.Letters.{letters}
@@ -34,6 +34,16 @@ pub record NameText (w : List ℕ) : Type 0 where
   pub some : 1 ≤ length w
   pub most : length w ≤ 16
   pub small : (i : ℕ) → i < length w → T (inName (letterAt w i))
+
+-- the 16 bytes of job j are this name and zeros behind it
+pub record NamedBy (names : List ℕ) (j : ℕ) (w : List ℕ) : Type 0 where
+  pub text : NameText w
+  pub bytes : (i : ℕ) → i < 16 → letterAt names (16 * j + i) ≡ letterAt w i
+
+-- each of n jobs has a name, and no two are alike
+pub record GoodNames (names : List ℕ) (n : ℕ) : Type 0 where
+  pub named : (j : ℕ) → j < n → (w : List ℕ) × NamedBy names j w
+  pub apart : (i j : ℕ) → i < n → j < n → i ≢ j → (k : ℕ) × (k < 16) × (letterAt names (16 * i + k) ≢ letterAt names (16 * j + k))
 
 -- a line: the job of that name starts at t and lasts d quarter hours
 pub record LineText (t : ℕ) (name : List ℕ) (d : ℕ) (line : List ℕ) : Type 0 where

@@ -13,6 +13,13 @@ ghost use Rattle.plantext.specs.Names.{nameSize, nameLetter, isNamed, mi
 ghost use Rattle.plantext.specs.Steps.{kindOf, NumberEnds};
 use tables::Answer;
 
+// The kinds of letters that are looked for; any other number means names.
+const DIGITS: u8 = 0;
+
+const ZEROS: u8 = 1;
+
+const NAMES: u8 = 2;
+
 // The letter at a place, 0 behind the end.
 fn letter_at(text: &[u8], i: usize) -> u8
     ensures { λ r. ⌜ r ≡ letterAt (now (text .entry)) i ⌝ }
@@ -34,18 +41,18 @@ fn from_to(least: usize, most: usize, n: usize) -> bool
 fn in_name(c: u8) -> bool
     ensures { λ r. ⌜ r ≡ inName c ⌝ }
 {
-    from_to(97, 122, c as usize) || (from_to(48, 57, c as usize) || c == 45)
+    from_to(97, 122, c as usize) || (from_to(48, 57, c as usize) || c == b'-')
 }
 
-// The letter is a digit (kind 0), a zero (1) or a letter of a name (2).
+// The letter is a digit, a zero or a letter of a name.
 fn of_kind(kind: u8, c: u8) -> bool
     ensures { λ r. ⌜ r ≡ kindOf kind c ⌝ }
 {
-    if kind == 0 {
+    if kind == DIGITS {
         return from_to(48, 57, c as usize);
     }
-    if kind == 1 {
-        return c == 48;
+    if kind == ZEROS {
+        return c == b'0';
     }
     in_name(c)
 }
@@ -83,14 +90,14 @@ fn digits_end(text: &[u8], at: usize) -> usize
     requires { ⌜ at ≤ length (now text) + 40 ⌝ }
     ensures { λ r. ⌜ (r ≡ digitsEnd (now (text .entry)) at) × (r ≤ at + 5) ⌝ }
 {
-    at + letters_from(0, text, at, 5)
+    at + letters_from(DIGITS, text, at, 5)
 }
 
 // A point stands at a place, so within the text.
 fn point_at(text: &[u8], at: usize) -> bool
     ensures { λ r. ⌜ (r ≡ pointAt (now (text .entry)) at) × (r ≡ true → at < length (now (text .entry))) ⌝ }
 {
-    letter_at(text, at) == 46
+    letter_at(text, at) == b'.'
 }
 
 // Where the zeros from a place on end.
@@ -98,7 +105,7 @@ fn zeros_end(text: &[u8], at: usize) -> usize
     requires { ⌜ at ≤ length (now text) ⌝ }
     ensures { λ r. ⌜ (r ≡ zerosEnd (now (text .entry)) at) × (r ≤ length (now (text .entry))) ⌝ }
 {
-    at + letters_from(1, text, at, text.len() - at)
+    at + letters_from(ZEROS, text, at, text.len() - at)
 }
 
 // Where the number at a place ends: behind its digits, or behind the zeros that follow the point.
@@ -155,7 +162,7 @@ pub fn value_at(text: &[u8], at: usize) -> u64
     requires { ⌜ at ≤ length (now text) + 40 ⌝ }
     ensures { λ r. ⌜ r ≡ valueAt (now (text .entry)) at ⌝ }
 {
-    value_of(text, at, letters_from(0, text, at, 5))
+    value_of(text, at, letters_from(DIGITS, text, at, 5))
 }
 
 // Where the name of the line at a place stands.
@@ -171,7 +178,7 @@ fn name_length(text: &[u8], at: usize) -> usize
     requires { ⌜ at ≤ length (now text) ⌝ }
     ensures { λ r. ⌜ (r ≡ nameLength (now (text .entry)) at) × (r ≤ 17) ⌝ }
 {
-    letters_from(2, text, name_at(text, at), 17)
+    letters_from(NAMES, text, name_at(text, at), 17)
 }
 
 // Where the name ends.
@@ -240,7 +247,7 @@ pub fn name_size(names: &[u8], j: usize) -> usize
     requires { ⌜ j < 24 ⌝ }
     ensures { λ r. ⌜ (r ≡ nameSize (now (names .entry)) j) × (r ≤ 16) ⌝ }
 {
-    letters_from(2, names, 16 * j, 16)
+    letters_from(NAMES, names, 16 * j, 16)
 }
 
 // Letter i of the name of so many letters at a place; zeros behind it.
@@ -300,6 +307,14 @@ fn shares_name(names: &[u8], n: usize, j: usize) -> bool
     false
 }
 
+// The name of job j is not one, or not its own.
+fn bad_name(names: &[u8], n: usize, j: usize) -> bool
+    requires { ⌜ (n ≤ 24) × (j < 24) ⌝ }
+    ensures { λ r. ⌜ r ≡ (misnamed (now (names .entry)) j || sharesName (now (names .entry)) n j) ⌝ }
+{
+    misnamed(names, j) || shares_name(names, n, j)
+}
+
 // The lowest of n jobs whose name is not one, or not its own, or n.
 fn first_misnamed(names: &[u8], n: usize) -> usize
     requires { ⌜ n ≤ 24 ⌝ }
@@ -311,14 +326,6 @@ fn first_misnamed(names: &[u8], n: usize) -> usize
         }
     }
     n
-}
-
-// The name of job j is not one, or not its own.
-fn bad_name(names: &[u8], n: usize, j: usize) -> bool
-    requires { ⌜ (n ≤ 24) × (j < 24) ⌝ }
-    ensures { λ r. ⌜ r ≡ (misnamed (now (names .entry)) j || sharesName (now (names .entry)) n j) ⌝ }
-{
-    misnamed(names, j) || shares_name(names, n, j)
 }
 
 // Check 33, over n jobs.

@@ -1,14 +1,15 @@
 -- How long a line is, how lines are put one behind another, and what writing says.
 -- Assumes nothing.
-use mathlib.Core.Path.{_≡_, sym, ap, _∙_, subst}
+use mathlib.Core.Path.{_≡_, refl, sym, ap, ap₂, _∙_, subst}
+use mathlib.Core.Logic.{_⊎_, inl, inr}
 use mathlib.Core.Bool.{Bool, not, _||_}
-use mathlib.Core.List.{List, _++_, append-assoc}
-use Prim.Native.Nat.{ℕ, _+_, _-_, _*_, _/_, _≤_, _<_}
+use mathlib.Core.List.{List, [], _++_, append-nil, append-assoc}
+use Prim.Native.Nat.{ℕ, zero, suc, _+_, _-_, _*_, _/_, _≤_, _<_}
 use native.Mathlib.Omega.{arith}
 use borrow.Author.Tests.{eq-eqb, ne-eqb}
 use lib.Dec.{T, eqb, ltb}
 use lib.ListN.{length, take, drop, length-append, length-take}
-use Rattle.facts.proofs.Bools.{or-l, or-r, at-most}
+use Rattle.facts.proofs.Bools.{or-l, or-r, at-most, or-at}
 use Rattle.facts.proofs.Least.{lowest}
 use Rattle.refusals.specs.Refusals.{accepted}
 use Rattle.refusals.proofs.Refused.{stopped, both}
@@ -28,7 +29,7 @@ use Rattle.verdict.specs.Offered.{offered}
 use Rattle.verdict.specs.Steps.{Sound}
 use Rattle.verdict.proofs.Accepted.{offered-checks}
 use Rattle.bytes_le.specs.Little.{atFront}
-use Rattle.lines.specs.Lines.{decimal}
+use Rattle.lines.specs.Lines.{decimal, startingAt}
 use Rattle.lines.specs.Letters.{letters}
 use Rattle.lines.specs.Lays.{Lays}
 use Rattle.lines.proofs.Laws.{lays-none, lays-then, lays-fit, lays-next, text-yes, text-no}
@@ -37,7 +38,7 @@ use Rattle.plantext.specs.Form.{letterAt, inName}
 use Rattle.plantext.specs.Names.{nameSize, nameOf, namesCheck}
 use Rattle.plantext.specs.Writing.{stepLine, stepsText, writeVerdict, WritesText}
 use Rattle.plantext.proofs.Laws.{names-checks}
-use Rattle.plantext_write.specs.Steps.{TextGiven, stepAt, PutsText}
+use Rattle.plantext_write.specs.Steps.{TextGiven, stepAt, stepsAt, PutsText, NextStart}
 
 -- ── how long a line is ──
 
@@ -71,6 +72,10 @@ steps-fit names P b s p l = jobs-fit (stepLine names P s) s (P .count) 39 (b + 1
 pub puts-next : (f : ℕ → List ℕ) (k : ℕ) {at to r : ℕ} {xs ys zs : List ℕ} → at ≤ length xs → PutsText (joined f k) at xs ys to → PutsText (f k) to ys zs r → PutsText (joined f (k + 1)) at xs zs r
 puts-next f k l p q = lays-fit (lays-next f k l p q) (omega arith)
 
+-- another way to say the same text
+pub puts-same : {v w : List ℕ} {at r : ℕ} {xs ys : List ℕ} → v ≡ w → PutsText v at xs ys r → PutsText w at xs ys r
+puts-same {at = at} {r} {xs} {ys} e p = subst (λ (t : List ℕ). PutsText t at xs ys r) e p
+
 -- a job that does not start at t has none
 pub step-none : (names : List ℕ) (P : Problem) (s : Plan) (t j at : ℕ) (xs : List ℕ) → (s j ≡ t → ⊥) → PutsText (stepAt names P s t j) at xs xs at
 step-none names P s t j at xs n = rw (text-no (eqb (s j) t) (stepLine names P s j) (ne-eqb (s j) t n)) (lays-none at xs)
@@ -100,6 +105,29 @@ module _ (names : List ℕ) (P : Problem) (s : Plan) (t j : ℕ) (at-t : s j ≡
       let y = digits e in
       let z = lays-then (omega arith) (rw e at a) (lays-then (omega arith) b (lays-then (omega (arith, b .next)) c (rw f at d))) in
       rw step-is (lays-fit (rw (append-assoc (decimal (s j)) (letters ".000: (")) at z) (omega arith))
+
+-- ── hours in which nothing starts ──
+
+-- no lines of no jobs
+starting-none : (line : ℕ → List ℕ) (s : Plan) (n t : ℕ) → ((j : ℕ) → j < n → s j ≡ t → ⊥) → startingAt line s n t ≡ []
+unfolding joined
+starting-none line s zero t f = refl
+starting-none line s (suc n) t f =
+    ap₂ (λ (x y : List ℕ). x ++ y) (starting-none line s n t (λ j l. f j (omega arith))) (text-no (eqb (s n) t) (line n) (ne-eqb (s n) t (f n (omega arith))))
+
+-- nothing put behind
+joined-skip : (f : ℕ → List ℕ) (a b : ℕ) → a ≤ b → ((i : ℕ) → a ≤ i → i < b → f i ≡ []) → joined f b ≡ joined f a
+unfolding joined
+joined-skip f a zero l n = let e : a ≡ 0 = omega arith in rw e refl
+joined-skip f a (suc b) l n = go (or-at a (suc b) l) (λ m. joined-skip f a b m (λ i x y. n i x (omega arith)))
+  where
+    go : (a < suc b) ⊎ (a ≡ suc b) → (a ≤ b → joined f b ≡ joined f a) → joined f b ++ f b ≡ joined f a
+    go (inr e) r = rw e refl
+    go (inl m) r = ap (λ (x : List ℕ). joined f b ++ x) (n b (omega arith) (omega arith)) ∙ append-nil (joined f b) ∙ r (omega arith)
+
+-- so from one start to the next no line comes
+pub skips : (names : List ℕ) (P : Problem) (s : Plan) (from till r : ℕ) → NextStart (P .count) s from till r → joined (stepsAt names P s) r ≡ joined (stepsAt names P s) from
+skips names P s from till r x = joined-skip (stepsAt names P s) from r (x .later) (λ t l m. starting-none (stepLine names P s) s (P .count) t (λ j h e. x .free j h (omega arith) (omega arith)))
 
 -- ── the call ──
 

@@ -1,7 +1,7 @@
 -- What the steps of writing a plan's text ask for and put.
 -- Assumes nothing.
 use mathlib.Core.List.{List}
-use Prim.Native.Nat.{ℕ, _*_, _≤_}
+use Prim.Native.Nat.{ℕ, _*_, _≤_, _<_}
 use lib.Dec.{eqb}
 use lib.ListN.{length}
 use Rattle.rules.specs.Table.{Problem}
@@ -27,3 +27,15 @@ stepsAt names P s = startingAt (stepLine names P s) s (P .count)
 -- the text is put from the place `at` on; the room that it takes is its own length
 abbrev pub PutsText : (text : List ℕ) (at : ℕ) (before after : List ℕ) (r : ℕ) → Type 0
 PutsText text = Lays (length text) text
+
+-- r is `best`, or earlier and still from `from` on, and the start is not between `from` and r
+pub record SoonerStart (start from best r : ℕ) : Type 0 where
+  pub least : r ≤ best
+  pub later : from ≤ r
+  pub free : from ≤ start → start < r → ⊥
+
+-- r is from `from` on and at most `till`, and no job below n starts between
+pub record NextStart (n : ℕ) (s : Plan) (from till r : ℕ) : Type 0 where
+  pub least : r ≤ till
+  pub later : from ≤ r
+  pub free : (j : ℕ) → j < n → from ≤ s j → s j < r → ⊥

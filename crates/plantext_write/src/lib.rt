@@ -7,7 +7,8 @@ ghost use Rattle.tables.specs.Tables.{problem};
 ghost use Rattle.lines.specs.Lines.{decimal};
 ghost use Rattle.plantext.specs.Names.{nameOf};
 ghost use Rattle.plantext.specs.Writing.{stepsText, WritesText};
-ghost use Rattle.plantext_write.specs.Steps.{TextGiven, stepAt, stepsAt, PutsText};
+ghost use Rattle.plantext_write.specs.Steps.{TextGiven, stepAt, stepsAt, PutsText, SoonerStart, NextStart};
+ghost use Rattle.verdict.specs.Steps.{Given};
 use tables::Answer;
 use tables::Ask;
 use tables::Loaded;
@@ -77,15 +78,45 @@ fn put_starting(
     next
 }
 
-// The lines of the plan's jobs by start, then number.
+// The start where it comes from `from` on and before best, else best.
+fn sooner(start: u16, from: usize, best: usize) -> usize
+    requires { ⌜ from ≤ best ⌝ }
+    ensures { λ r. ⌜ SoonerStart start from best r ⌝ }
+{
+    let at = entries::wide(start) as usize;
+    if at < from {
+        return best;
+    }
+    if best <= at {
+        return best;
+    }
+    at
+}
+
+// The next moment from `from` on at which a job starts, or till.
+fn next_start(q: Ask, s: &[u16], from: usize, till: usize) -> usize
+    requires { ⌜ Given q (now s) × (from ≤ till) ⌝ }
+    ensures { λ r. ⌜ NextStart (q .jobs) (starts (now (s .entry))) from till r ⌝ }
+{
+    let n = q.jobs;
+    let mut best = till;
+    for j in 0..n {
+        best = sooner(s[j], from, best);
+    }
+    best
+}
+
+// The lines of the plan's jobs by start, then number: from start to start, so that hours in which nothing starts cost nothing.
 fn put_steps(l: Loaded, q: Ask, names: &[u8], s: &[u16], out: &mut [u8]) -> usize
     requires { ⌜ TextGiven q (now names) (now s) × (length (stepsText (now names) (problem l q) (q .bound) (starts (now s))) ≤ length (now out)) ⌝ }
     ensures { λ r. ⌜ PutsText (stepsText (now (names .entry)) (problem l q) (q .bound) (starts (now (s .entry)))) 0 (now (out .entry)) (now (out .exit)) r ⌝ }
 {
-    let n = q.bound as usize + 1;
+    let till = q.bound as usize + 1;
     let mut next = 0usize;
-    for t in 0..n {
+    let mut t = next_start(q, s, 0, till);
+    while t < till {
         next = put_starting(l, q, names, s, t, next, out);
+        t = next_start(q, s, t + 1, till);
     }
     next
 }
