@@ -1,4 +1,7 @@
 // Batches of house groups, expanded into a job table above the planner.
+
+#![tactic(auto)]
+
 ghost use Rattle.std.specs.Prelude.{◌≡◌, ◌+◌, ◌-◌, ◌≤◌, ◌<◌, min, length};
 ghost use Rattle.facts.specs.Least.{least};
 ghost use Rattle.tables.specs.Tables.{job_at};
@@ -9,7 +12,7 @@ use jobfile::Read;
 use tables::{Action, Answer, Ask, Loaded};
 
 // A stage of a house group, in quarter hours, and whether it holds the wash bay.
-#[derive(Drop)]
+#[derive(Clone, Copy)]
 pub struct Stage {
     pub duration: u16,
     pub bay: bool,
@@ -183,7 +186,7 @@ fn with_stages(l: Loaded, group: usize, at: usize, first: usize) -> Loaded
 }
 
 // The table so far, how many jobs it has, the next done fact, and the goals.
-#[derive(Drop)]
+#[derive(Clone, Copy)]
 struct Draft {
     table: Loaded,
     jobs: usize,
@@ -229,7 +232,7 @@ fn with_batches(groups: &[u8], room: usize) -> Draft
 
 // What expanding batches says beside the records.
 #[repr(C)]
-#[derive(Drop)]
+#[derive(Clone, Copy)]
 pub struct BatchAnswer {
     pub answer: Answer,
     pub jobs: usize,

@@ -1,4 +1,7 @@
 // Supports and binding pairs of an offered plan.
+
+#![tactic(auto)]
+
 ghost use Rattle.std.specs.Prelude.{◌≡◌, ℕ, ◌+◌, ◌*◌, ◌≤◌, ◌<◌, length, get_or};
 ghost use Rattle.facts.specs.Facts.{has};
 ghost use Rattle.facts.specs.Least.{least, any};
@@ -14,7 +17,7 @@ use named::Row;
 use tables::{Answer, Ask, Loaded};
 
 // For each job, a set of jobs that come before it.
-#[derive(Drop)]
+#[derive(Clone, Copy)]
 pub struct Before {
     pub of: [u64; 24],
 }

@@ -1,4 +1,7 @@
 // The least bound of a problem, with some plan within it: pruning alone, then doubling and halving.
+
+#![tactic(auto)]
+
 ghost use Rattle.std.specs.Prelude.{◌≡◌, ◌≤◌, ◌<◌, length};
 ghost use Rattle.rules.specs.Table.{Problem};
 ghost use Rattle.lent.specs.Lent.{Listed};
@@ -8,7 +11,7 @@ ghost use Rattle.bounds.specs.Bounds.{Served, NoneBelow, AnyAt, Hopeless, Later,
 use lent::Tables;
 
 // A range of bounds that holds the least.
-#[derive(Drop)]
+#[derive(Clone, Copy)]
 pub struct Range {
     pub low: u16,
     pub high: u16,

@@ -1,4 +1,7 @@
 // Little-endian numbers of up to 8 bytes in slices.
+
+#![tactic(auto)]
+
 ghost use Rattle.std.specs.Prelude.{◌≡◌, ◌+◌, ◌≤◌, length};
 ghost use Rattle.bytes_le.specs.Little.{little, at_front, laid};
 ghost use Rattle.bytes_le.specs.Steps.{ReadsNumber};

@@ -1,9 +1,9 @@
 -- P1 to P11 and the numbers of 02 hold: one statement for the whole table.
 -- Assumes nothing.
 use mathlib.Core.Path.{refl}
-use mathlib.Core.List.{[], ◌∷◌, ◌++◌}
+use mathlib.Core.List.{[], ◌∷◌}
 use native.Mathlib.Omega.{arith}
-use Rattle.facts.specs.Facts.{has, after, word_of}
+use Rattle.facts.specs.Facts.{has, after}
 use Rattle.facts.specs.Least.{least, further, any}
 use Rattle.refusals.specs.Refusals.{refuse_if, refuse_at, refuse_for}
 use Rattle.rules.specs.Table.{between, strays, job_strays, undoes, job_checks, table_checks, bound_check}
@@ -19,14 +19,12 @@ use Rattle.rules.specs.Sums.{sum}
 use Rattle.rules.proofs.Late.{greatest_of}
 use Rattle.tenths.specs.Tenths.{in_range, tenths}
 use Rattle.tenths.specs.Rounding.{float}
-use Rattle.tables.specs.Tables.{unmarked, filled}
+use Rattle.tables.specs.Tables.{unmarked}
 use Rattle.batches.specs.Groups.{house_groups}
 use Rattle.batches.specs.Batches.{batch_checks}
-use Rattle.opentable.specs.Open.{clash_bit, reclashed, without_job}
-use Rattle.opentable.specs.Rows.{replace, remove, after_edits}
-use Rattle.cases.specs.Jobs.{facts, action}
+use Rattle.cases.specs.Jobs.{facts}
 use Rattle.cases.specs.Claims.{AllHold}
-use Rattle.cases.specs.Cases.{out, add_u, cases}
+use Rattle.cases.specs.Cases.{out, cases}
 use Rattle.cases.proofs.Refute.{some, every, add_if, collect, include, due_if, exclude, ahead, behind, is_job, at_least, chain, broken, wants, guards, step, refute, hopeless}
 use Rattle.cases.proofs.Firsts.{sooner, due_before, none_before}
 use Rattle.cases.proofs.Batched.{makes_two, makes_none}
@@ -35,7 +33,7 @@ use Rattle.plantext.specs.Form.{is_digit, is_zero, in_name, same_letters, word_s
 use Rattle.plantext.specs.Names.{name_size, name_of, name_letter, is_named, misnamed, shares_name, names_check, job_named}
 use Rattle.plantext.specs.Reading.{line_at, line_job, plan_said, formless, line_checks, text_over, lines_read, text_checks}
 use Rattle.plantext.specs.Writing.{step_line, steps_text}
-use Rattle.cases.proofs.Shown.{plans_ok, none_ok, least_ok, judged_ok, touch_ok, tenths_ok, all, solves, estimates_ok, stands, keeps, settles, explains_ok, hinders_ok, finishes_ok, says_none, says_one, misses_first, keeping_ok, takes_ok, refuses_ok}
+use Rattle.cases.proofs.Shown.{plans_ok, none_ok, least_ok, judged_ok, touch_ok, tenths_ok, all, solves, estimates_ok, stands, keeps, settles, explains_ok, hinders_ok, finishes_ok, says_none, says_one, misses_first, takes_ok, refuses_ok}
 
 -- one case, and all that follow
 infixr 20 ◌also◌
@@ -43,7 +41,7 @@ infixr 20 ◌also◌
 a also b = (a, b)
 
 pub all_hold : AllHold cases
-unfolding ◌also◌ cases unmarked blocks start_fits job_fits name named supporting feeds binds joined pair_if pair_bytes facts has after least further any refuse_if refuse_at refuse_for between strays job_strays undoes job_checks table_checks bound_check in_plan spoils clash_of interfere ends after_if finishes holds late early overlap clashes clash_fact unready missing plan_checks in_range tenths float some every add_if collect include due_if exclude ahead behind is_job at_least chain broken wants guards step refute hopeless sooner due_before none_before all solves plus cheapest cost condition dearest stands keeps settles hindrance_of greatest_of overrun_check sum house_groups batch_checks text_if decimal is_digit is_zero in_name same_letters word_stands digits_end point_at zeros_end number_end number_at value_of value_at name_at name_length name_end duration_at next_line start_form duration_form in_form name_size name_of name_letter is_named misnamed shares_name names_check job_named line_at line_job plan_said formless line_checks text_over lines_read text_checks step_line steps_text filled word_of clash_bit reclashed without_job after_edits
+unfolding ◌also◌ cases unmarked blocks start_fits job_fits name named supporting feeds binds joined pair_if pair_bytes facts has after least further any refuse_if refuse_at refuse_for between strays job_strays undoes job_checks table_checks bound_check in_plan spoils clash_of interfere ends after_if finishes holds late early overlap clashes clash_fact unready missing plan_checks in_range tenths float some every add_if collect include due_if exclude ahead behind is_job at_least chain broken wants guards step refute hopeless sooner due_before none_before all solves plus cheapest cost condition dearest stands keeps settles hindrance_of greatest_of overrun_check sum house_groups batch_checks text_if decimal is_digit is_zero in_name same_letters word_stands digits_end point_at zeros_end number_end number_at value_of value_at name_at name_length name_end duration_at next_line start_form duration_form in_form name_size name_of name_letter is_named misnamed shares_name names_check job_named line_at line_job plan_said formless line_checks text_over lines_read text_checks step_line steps_text
 all_hold =
     -- P1
     plans_ok refl refl tt
@@ -145,14 +143,6 @@ all_hold =
     also misses_first (omega arith) (λ x. x) refl
     also misses_first (omega arith) (λ x. x) refl
     also misses_first (omega arith) (λ x. x) refl
-    also refl
-    also refl
-    also refl
-    -- Six
-    also keeping_ok 5 add_u (0 ∷ 8 ∷ 0 ∷ 2 ∷ []) refl refl
-    also keeping_ok 5 (add_u ++ (remove 2 ∷ [])) (0 ∷ 4 ∷ 2 ∷ []) refl refl
-    also refl
-    also keeping_ok 5 (add_u ++ (replace (record { job = 0; «record» = action [] (0 ∷ []) (1 ∷ []) 1 }) ∷ [])) (14 ∷ 9 ∷ 1 ∷ 3 ∷ []) refl refl
     also refl
     also refl
     also refl

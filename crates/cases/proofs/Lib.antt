@@ -5,4 +5,5 @@ pub mod Firsts
 pub mod Shown
 pub mod Batched
 pub mod Cases
+pub mod Desk
 pub mod Trolley

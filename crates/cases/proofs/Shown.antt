@@ -6,7 +6,7 @@ use mathlib.Core.Bool.{Bool, not, ◌&&◌, ◌||◌, cond}
 use mathlib.Core.List.{List}
 use Prim.Native.Nat.{ℕ, ◌+◌, ◌*◌, ◌-◌, ◌≤◌, ◌<◌}
 use native.Mathlib.Omega.{arith}
-use lib.ListN.{length, get_or}
+use lib.ListN.{length}
 use lib.Dec.{T, eqb, ltb, eqb→eq, ltb→lt, T_not}
 use lib.Ieee.{Float}
 use lib.IntN.{ℤ}
@@ -37,15 +37,11 @@ use Rattle.rules.proofs.Late.{greatest_of, finish_of, of_one, pairs_of_one, one_
 use Rattle.rules.proofs.Orders.{wider, planned_only, bounded_only}
 use Rattle.tenths.specs.Tenths.{in_range, AreTenths, tenths}
 use Rattle.tenths.proofs.Nearest.{tenths_are}
-use Rattle.cases.specs.Claims.{table_and_bound, SameStarts, Taken, RefusedWith, Plans, Refuses10, LeastIs, Judged, Touch, HasTenths, EstimatesAre, ExplainedBy, HinderedBy, FinishesAt, SaysStarts, MissesLine, KeepsRows}
+use Rattle.cases.specs.Claims.{table_and_bound, SameStarts, Taken, RefusedWith, Plans, Refuses10, LeastIs, Judged, Touch, HasTenths, EstimatesAre, ExplainedBy, HinderedBy, FinishesAt, SaysStarts, MissesLine}
 use Rattle.plantext.specs.Form.{same_letters}
 use Rattle.plantext.specs.Reading.{line_at, plan_said, line_checks, text_over}
 use Rattle.plantext.proofs.Laws.{same_letters_lem}
 use Rattle.plantext.proofs.Lines.{Goes, goes_more, stops_over, stops_bad, line_checks_lem}
-use Rattle.opentable.specs.Open.{present, places, bit_rows, clash_bit, empty_of}
-use Rattle.opentable.specs.Rows.{Edit, after_edits}
-use Rattle.opentable.proofs.Rows.{empty_right}
-use Rattle.opentable.proofs.Orderly.{right_always}
 use Rattle.cases.proofs.Refute.{hopeless}
 use Rattle.cases.proofs.Firsts.{none_before, none, first, below_least}
 
@@ -265,10 +261,3 @@ module _ {P : Problem} {names text : List ℕ} where
   misses_first m n e =
       let some : (line_checks P names text 0 accepted).number ≡ 0 → ⊥ = λ z. omega (arith, ap (λ (v : Verdict). v.number) e) in
       record { refuses = λ next. stops_bad P names text 0 none_goes n some next ∙ stopped (line_checks P names text 0) (line_checks_lem P names text 0) some next ∙ e }
-
--- ── open tables ──
-
--- the rows that a table keeps are the rule's, which are computed
-pub keeping_ok : (atoms : ℕ) (es : List Edit) (rows : List ℕ) → (after_edits (empty_of atoms) es).count ≡ length rows → bit_rows (clash_bit (present (after_edits (empty_of atoms) es))) ≡ places 0 (λ i. get_or rows i 0)
-    → KeepsRows (after_edits (empty_of atoms) es) rows
-keeping_ok atoms es rows n e = record { count = n; kept = right_always es (empty_of atoms) (empty_right atoms) ∙ e }

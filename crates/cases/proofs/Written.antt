@@ -14,7 +14,7 @@ use Rattle.cases.specs.Jobs.{facts}
 
 pub facts_are : (l : List ℕ) (p : ℕ) → T (has (facts l) p) ↔ Memᴰ p l
 unfolding facts
-facts_are [] p = (λ h. absurd (has_zero p h), λ m. absurd (Memᴰ.not_nil m))
+facts_are [] p = (λ h. absurd (has_zero p h), λ m. absurd (Memᴰ.not-nil m))
 facts_are (q ∷ l) p = go (facts_are l p)
   where
     go : T (has (facts l) p) ↔ Memᴰ p l → T (has (facts (q ∷ l)) p) ↔ Memᴰ p (q ∷ l)

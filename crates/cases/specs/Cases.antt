@@ -1,14 +1,13 @@
 -- P1 to P11 of 01 and the numbers of 02 as one table. What a line claims of the rules is said in Claims.
 -- Assumes nothing.
-use Rattle.std.specs.Prelude.{List, [], ◌∷◌, ◌++◌, ℕ, ◌+◌, pos, neg_ℤ}
+use Rattle.std.specs.Prelude.{List, [], ◌∷◌, ℕ, ◌+◌, pos, neg_ℤ}
 use Prim.Native.String.{String}
 use Rattle.refusals.specs.Refusals.{accepted, refused}
 use Rattle.rules.specs.declared.Hindrance.TheVariants.{Never, TooDear, Neither}
 use Rattle.rules.specs.Table.{Problem}
 use Rattle.tenths.specs.Rounding.{float}
 use Rattle.cases.specs.Jobs.{action, problem_of, lasting, landing}
-use Rattle.cases.specs.Claims.{Claim, plans, no_plan, least, touching, offered, clashing, binding, tenths, estimates, explains, hinders, finishes, overruns, makes, entered, tells, says, misses, misnames, keeping, edited_next, takes, refuses}
-use Rattle.opentable.specs.Rows.{Edit, begin, add, replace, remove}
+use Rattle.cases.specs.Claims.{Claim, plans, no_plan, least, touching, offered, clashing, binding, tenths, estimates, explains, hinders, finishes, overruns, makes, entered, tells, says, misses, misnames, takes, refuses}
 use Rattle.tables.specs.declared.Action.{Action}
 
 -- ── jobs U ──
@@ -32,10 +31,6 @@ wash = action (1 ∷ []) (4 ∷ []) (2 ∷ []) 3
 -- all four jobs with this atom count, open {0}
 abbrev pub counting : (atoms : ℕ) (goals : List ℕ) → Problem
 counting atoms goals = problem_of (unpack ∷ drench ∷ warm ∷ wash ∷ []) atoms (0 ∷ []) goals
-
--- all four added to an open table
-abbrev pub add_u : List Edit
-add_u = add unpack ∷ add drench ∷ add warm ∷ add wash ∷ []
 
 -- their names
 abbrev pub names_u : List String
@@ -238,15 +233,4 @@ cases =
     ∷ misnames ("wash" ∷ "warm" ∷ "drench" ∷ "warm" ∷ []) 1
     ∷ misnames ("wash" ∷ "" ∷ []) 1
     ∷ misnames ("wash" ∷ "Warm" ∷ []) 1
-    -- Six: of jobs U, added one by one, drench and wash clash
-    ∷ keeping 5 add_u (0 ∷ 8 ∷ 0 ∷ 2 ∷ [])
-    -- Six: warm removed, wash and its bits move down by one; added again it is job 3
-    ∷ keeping 5 (add_u ++ (remove 2 ∷ [])) (0 ∷ 4 ∷ 2 ∷ [])
-    ∷ edited_next 5 (add_u ++ (remove 2 ∷ [])) (add warm) accepted 3
-    -- Six: unpack replaced by a job that deletes fact 1, which the other three need
-    ∷ keeping 5 (add_u ++ (replace (record { job = 0; «record» = action [] (0 ∷ []) (1 ∷ []) 1 }) ∷ [])) (14 ∷ 9 ∷ 1 ∷ 3 ∷ [])
-    -- Six: there is no job 4; the fifth job would be job 4; 65 atoms are refused
-    ∷ edited_next 5 add_u (remove 4) (refused 22 4) 0
-    ∷ edited_next 5 add_u (add (lasting 961 warm)) (refused 6 4) 0
-    ∷ edited_next 5 add_u (begin 65) (refused 4 0) 0
     ∷ []

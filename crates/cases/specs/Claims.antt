@@ -1,6 +1,6 @@
 -- What a case can claim, and what that says of the rules.
 -- Assumes nothing.
-use Rattle.std.specs.Prelude.{◌≡◌, ◌↔◌, List, [], ◌∷◌, ℕ, ◌/◌, ◌≤◌, ◌<◌, T, Float, length, get_or, ℤ}
+use Rattle.std.specs.Prelude.{◌≡◌, ◌↔◌, List, [], ◌∷◌, ℕ, ◌/◌, ◌≤◌, ◌<◌, T, Float, length, ℤ}
 use Prim.Native.String.{String}
 use Rattle.refusals.specs.Refusals.{Verdict, accepted, refused, refused_for}
 use Rattle.rules.specs.Table.{Problem, table_checks, bound_check}
@@ -15,7 +15,7 @@ use Rattle.rules.specs.Reasons.{Chain, Explained, hindrance_of}
 use Rattle.rules.specs.Lateness.{LatestFinish, overrun_check}
 use Rattle.rules.specs.Order.{First, LeastBound, NoPlan, Planned, Bounded}
 use Rattle.tables.specs.declared.Action.{Action}
-use Rattle.tables.specs.Tables.{record_at, answer_of}
+use Rattle.tables.specs.Tables.{record_at}
 use Rattle.times.specs.Times.{pair_first, pair_second}
 use Rattle.tenths.specs.Tenths.{in_range, AreTenths}
 use Rattle.batches.specs.Batches.{BatchTable, batch_checks}
@@ -23,9 +23,6 @@ use Rattle.lines.specs.Letters.{letters}
 use Rattle.plantext.specs.Names.{names_check}
 use Rattle.plantext.specs.Reading.{plan_said, lines_read, text_checks}
 use Rattle.plantext.specs.Writing.{steps_text}
-use Rattle.opentable.specs.declared.OpenTable.{OpenTable}
-use Rattle.opentable.specs.Open.{places, empty_of}
-use Rattle.opentable.specs.Rows.{Edit, editing, after_edits}
 use Rattle.cases.specs.Jobs.{facts, name_table}
 
 -- the kinds of claim
@@ -68,10 +65,6 @@ pub data Claim : Type 0 where
   misses : Problem → (names : List String) → (text : String) → (number line : ℕ) → Claim
   -- a name table of these names is refused with 33 at this place
   misnames : (names : List String) → (place : ℕ) → Claim
-  -- a table begun with so many atoms and edited so keeps these rows for its jobs
-  keeping : (atoms : ℕ) → (edits : List Edit) → (rows : List ℕ) → Claim
-  -- of the next edit of such a table this is said, with this value
-  edited_next : (atoms : ℕ) → (edits : List Edit) → Edit → Verdict → (value : ℕ) → Claim
   -- checks 4 to 9 and 20 take the table and the bound
   takes : Problem → (bound : ℕ) → Claim
   -- checks 4 to 9 and 20 refuse the table or the bound with this number and place
@@ -171,11 +164,6 @@ pub record SaysStarts (P : Problem) (names text : List ℕ) (s : Plan) : Type 0 
 pub record MissesLine (P : Problem) (names text : List ℕ) (number line : ℕ) : Type 0 where
   pub refuses : (next : Verdict) → text_checks P names text next ≡ refused number line
 
--- the table has as many jobs as there are rows, and keeps these rows for them and 0 behind them
-pub record KeepsRows (t : OpenTable) (rows : List ℕ) : Type 0 where
-  pub count : t.count ≡ length rows
-  pub kept : t.rows ≡ places 0 (λ i. get_or rows i 0)
-
 -- what a case claims of the rules
 abbrev pub IsSo : Claim → Type 0
 IsSo (plans P bound l) = Plans P bound (starts l)
@@ -197,8 +185,6 @@ IsSo (tells P names bound l text long) = (steps_text (name_table names) P bound 
 IsSo (says P names text l) = SaysStarts P (name_table names) (letters text) (starts l)
 IsSo (misses P names text number line) = MissesLine P (name_table names) (letters text) number line
 IsSo (misnames names place) = names_check (name_table names) (length names) accepted ≡ refused 33 place
-IsSo (keeping atoms es rows) = KeepsRows (after_edits (empty_of atoms) es) rows
-IsSo (edited_next atoms es e v value) = (editing (after_edits (empty_of atoms) es) e).answer ≡ answer_of v value 0
 IsSo (takes P bound) = Taken P bound
 IsSo (refuses P bound number place) = RefusedWith P bound number place
 

@@ -1,3 +1,4 @@
 pub mod Jobs
 pub mod Claims
 pub mod Cases
+pub mod Desk

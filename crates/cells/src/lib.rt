@@ -1,4 +1,7 @@
 // The state of the search as one array of words that is changed in place: its tests and its changes.
+
+#![tactic(auto)]
+
 ghost use Rattle.std.specs.Prelude.{◌≡◌, ◌+◌, ◌≤◌, ◌<◌, ◌^◌, length, get_or};
 ghost use Rattle.std.specs.Int.Bits.{bit_or};
 ghost use Rattle.cells.specs.View.{ins, outs, sures, nevers, los, his, word_at, view, Blank, Prunes, NoneLeft, Sets, Puts, PutsBit, IsIn, IsOut, IsAhead, AllAhead, NotAhead, From, Till};

@@ -1,4 +1,7 @@
 // Jobs that exclude each other and have no room one beside the other.
+
+#![tactic(auto)]
+
 ghost use Rattle.std.specs.Prelude.{◌≡◌, true, ◌≤◌, ◌<◌};
 ghost use Rattle.cells.specs.View.{view, Prunes, Says, IsAhead};
 ghost use Rattle.facts.specs.Words.{Covers};
@@ -10,7 +13,7 @@ use groups::Groups;
 use lent::Tables;
 
 // The jobs of groups, each group's jobs, how long it keeps the others away, and the groups by their latest ends.
-#[derive(Drop)]
+#[derive(Clone, Copy)]
 pub struct Crowd {
     pub jobs: u32,
     pub words: [u32; 24],
@@ -20,7 +23,7 @@ pub struct Crowd {
 }
 
 // Groups of a crowd from a time on: their jobs, what they take together, and when the last is gone.
-#[derive(Drop)]
+#[derive(Clone, Copy)]
 pub struct Heap {
     pub from: u32,
     pub members: u32,

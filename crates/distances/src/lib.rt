@@ -1,4 +1,7 @@
 // Distances between jobs: how long after the start of a job another, which it is over before, starts at the earliest.
+
+#![tactic(auto)]
+
 ghost use Rattle.std.specs.Prelude.{◌≡◌, ◌≤◌, ◌<◌};
 ghost use Rattle.rules.specs.Premises.{InOrder};
 ghost use Rattle.tables.specs.Tables.{problem};

@@ -1,4 +1,7 @@
 // Jobs whose supports for a fact are different: there must be as many.
+
+#![tactic(auto)]
+
 ghost use Rattle.std.specs.Prelude.{◌≡◌, true, ℕ, ◌<◌, T};
 ghost use Rattle.std.specs.Int.Count.{ones};
 ghost use Rattle.facts.specs.Facts.{has};
@@ -11,7 +14,7 @@ use cells::State;
 use lent::Tables;
 
 // Jobs that want the fact, each of another support, and the jobs that could come to them.
-#[derive(Drop)]
+#[derive(Clone, Copy)]
 pub struct Band {
     pub members: u32,
     pub common: u32,

@@ -1,4 +1,7 @@
 // Numbers by job: 24 of them by value, compared and filled into lent memory.
+
+#![tactic(auto)]
+
 ghost use Rattle.std.specs.Prelude.{◌≡◌, ◌≤◌, ◌<◌, max, length};
 ghost use Rattle.facts.specs.Words.{Decides};
 ghost use Rattle.tables.specs.Tables.{filled};

@@ -1,4 +1,7 @@
 // Earliest estimates: from 65,535 downwards, round by round, until no job has a condition that got cheaper.
+
+#![tactic(auto)]
+
 ghost use Rattle.std.specs.Prelude.{◌≡◌, cond, ◌&&◌, ◌≤◌, ◌<◌, max, eqb, ltb, length};
 ghost use Rattle.facts.specs.Facts.{has};
 ghost use Rattle.facts.specs.Least.{any};

@@ -1,4 +1,7 @@
 // The flaws of a state: open conditions, support threats and mutex threats.
+
+#![tactic(auto)]
+
 ghost use Rattle.std.specs.Prelude.{◌≡◌, ℕ, ◌≤◌, ◌<◌, ◌^◌, T};
 ghost use Rattle.facts.specs.Facts.{has};
 ghost use Rattle.facts.specs.Words.{Decides};
@@ -25,7 +28,7 @@ pub const PAIR: u8 = 3;
 const OPEN: u64 = 1000000;
 
 // A choice to be made: its kind, its job or its pair, and its rank among the flaws.
-#[derive(Drop)]
+#[derive(Clone, Copy)]
 pub struct Choice {
     pub kind: u8,
     pub x: usize,
@@ -34,7 +37,7 @@ pub struct Choice {
 }
 
 // One fact of a consumer: the consumer, its candidates, and the deleters before which it is not surely over.
-#[derive(Drop)]
+#[derive(Clone, Copy)]
 pub struct Scene {
     pub by: usize,
     pub cands: u32,

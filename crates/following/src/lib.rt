@@ -1,4 +1,7 @@
 // Following the house as it works: one event of a plan's jobs at a time.
+
+#![tactic(auto)]
+
 ghost use Rattle.std.specs.Prelude.{◌≡◌, not, cond, ◌&&◌, ℕ, ◌≤◌, ◌<◌, T, length};
 ghost use Rattle.facts.specs.Facts.{has};
 ghost use Rattle.facts.specs.Words.{Word, Covers, Decides};
@@ -15,7 +18,7 @@ use tables::{Answer, Ask, Loaded};
 
 // What the screen is handed: the numbers, the jobs that have started and those that have finished, and an event of a job, 0 its start and 1 its finish.
 #[repr(C)]
-#[derive(Drop)]
+#[derive(Clone, Copy)]
 pub struct Watch {
     pub ask: Ask,
     pub started: u64,
@@ -26,7 +29,7 @@ pub struct Watch {
 
 // What the screen shows: what is said, the jobs that have started and finished after the event, the facts now, and the jobs that may start.
 #[repr(C)]
-#[derive(Drop)]
+#[derive(Clone, Copy)]
 pub struct Screen {
     pub answer: Answer,
     pub started: u64,

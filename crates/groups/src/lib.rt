@@ -1,4 +1,7 @@
 // Words of jobs of which one is in: a job inside alone, and all candidates for a condition.
+
+#![tactic(auto)]
+
 ghost use Rattle.std.specs.Prelude.{List, ℕ, ◌≤◌, ◌<◌, T};
 ghost use Rattle.states.specs.State.{Search, there};
 ghost use Rattle.cells.specs.View.{view};
@@ -11,7 +14,7 @@ use cells::State;
 use lent::Tables;
 
 // Words of jobs of each of which one job is in, each at the place of its first job; `used` are the jobs of all.
-#[derive(Drop)]
+#[derive(Clone, Copy)]
 pub struct Groups {
     pub words: [u32; 24],
     pub used: u32,

@@ -1,11 +1,14 @@
 // What a job file is, and what reading one returns.
+
+#![tactic(auto)]
+
 ghost use Rattle.std.specs.Prelude.{◌≡◌};
 ghost use Rattle.jobfile.specs.Calls.{nothing};
 
 use tables::{Answer, Ask, Loaded};
 
 // What the reader returns: the answer, the numbers asked with and the records; all 0 on refusal.
-#[derive(Drop)]
+#[derive(Clone, Copy)]
 pub struct Read {
     pub answer: Answer,
     pub ask: Ask,

@@ -1,4 +1,7 @@
 // The reader of job files.
+
+#![tactic(auto)]
+
 ghost use Rattle.std.specs.Prelude.{◌≡◌, ◌+◌, ◌*◌, ◌≤◌, ◌<◌, length};
 ghost use Rattle.facts.specs.Least.{any};
 ghost use Rattle.tables.specs.Steps.{Tests};

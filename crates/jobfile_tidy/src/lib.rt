@@ -1,4 +1,7 @@
 // Tidying a job file in the lent buffer.
+
+#![tactic(auto)]
+
 ghost use Rattle.std.specs.Prelude.{◌≡◌, ◌+◌, ◌-◌, ◌≤◌, length, take, drop, replicate};
 ghost use Rattle.bytes_le.specs.Little.{at_front};
 ghost use Rattle.jobfile.specs.Format.{trailer_at, trailer_in, distance_in, save_length};

@@ -1,4 +1,7 @@
 // The writer of job files.
+
+#![tactic(auto)]
+
 ghost use Rattle.std.specs.Prelude.{◌≡◌, ◌*◌, ◌≤◌, ltb, length};
 ghost use Rattle.tables.specs.Steps.{Tests};
 ghost use Rattle.bytes_le.specs.Little.{at_front};

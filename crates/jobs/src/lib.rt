@@ -1,4 +1,7 @@
 // A set of jobs as one word of 32 bits, job 0 the lowest.
+
+#![tactic(auto)]
+
 ghost use Rattle.std.specs.Prelude.{◌≡◌, not, ◌&&◌, ◌<◌, ◌^◌, T};
 ghost use Rattle.std.specs.Int.Bits.{bit_or};
 ghost use Rattle.facts.specs.Facts.{has};

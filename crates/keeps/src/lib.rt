@@ -1,4 +1,7 @@
 // How long groups of jobs keep others away, and when they are gone.
+
+#![tactic(auto)]
+
 ghost use Rattle.std.specs.Prelude.{◌<◌};
 ghost use Rattle.keeps.specs.Keeps.{KeepsFor, KeepsAllFor, KeepsAway, AllKeepAway, NotBelow, Latest};
 

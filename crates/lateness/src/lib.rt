@@ -1,4 +1,7 @@
 // How late it can get, where each job of a plan runs over by up to so many quarter hours.
+
+#![tactic(auto)]
+
 ghost use Rattle.std.specs.Prelude.{◌≡◌, cond, ◌&&◌, List, ℕ, ◌+◌, ◌≤◌, max, ltb, length};
 ghost use Rattle.facts.specs.Facts.{has};
 ghost use Rattle.facts.specs.Words.{Word};
@@ -15,7 +18,7 @@ use tables::{Action, Answer, Ask, Loaded};
 
 // What is asked of a plan: the numbers, and by how many quarter hours each of its jobs may run over.
 #[repr(C)]
-#[derive(Drop)]
+#[derive(Clone, Copy)]
 pub struct Overruns {
     pub ask: Ask,
     pub most: u16,

@@ -1,4 +1,7 @@
 // What a job that leads another in the first plan tells of a state.
+
+#![tactic(auto)]
+
 ghost use Rattle.std.specs.Prelude.{◌<◌};
 ghost use Rattle.cells.specs.View.{Prunes};
 ghost use Rattle.lent.specs.Lent.{Lent};

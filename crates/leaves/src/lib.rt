@@ -1,4 +1,7 @@
 // When a state is a plan: its lower bounds are settled and every job stands.
+
+#![tactic(auto)]
+
 ghost use Rattle.std.specs.Prelude.{◌≡◌, ℕ, ◌<◌, T, length};
 ghost use Rattle.facts.specs.Facts.{has};
 ghost use Rattle.facts.specs.Words.{Decides};
@@ -10,7 +13,7 @@ use cells::State;
 use lent::Tables;
 
 // Two jobs, the first 24 for none.
-#[derive(Drop)]
+#[derive(Clone, Copy)]
 pub struct Pair {
     pub first: usize,
     pub second: usize,

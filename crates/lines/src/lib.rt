@@ -1,4 +1,7 @@
 // The lines of the text that bench-plan prints, each put into a lent buffer at a place.
+
+#![tactic(auto)]
+
 ghost use Rattle.std.specs.Prelude.{[], ◌∷◌, ◌+◌, ◌≤◌, ◌<◌, length};
 ghost use Rattle.lines.specs.Lines.{digit, decimal, number_then, refused_line, least_line, job_line, pair_line};
 ghost use Rattle.lines.specs.Lays.{Lays};
@@ -17,7 +20,7 @@ pub fn put_word(word: &[u8], at: usize, out: &mut [u8]) -> usize
     requires { at + length word.now ≤ length out.old }
     ensures { Lays (length word.now) word.now at out.old out.new result }
 {
-    bytes::copy(word, &mut out[at..]);
+    out[at..at + word.len()].copy_from_slice(word);
     at + word.len()
 }
 

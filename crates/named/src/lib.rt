@@ -1,4 +1,7 @@
 // The named supports of an offered plan, a row at a time and by words.
+
+#![tactic(auto)]
+
 ghost use Rattle.std.specs.Prelude.{◌≡◌, ◌&&◌, ◌+◌, ◌≤◌, ◌<◌, eqb, leb, ltb};
 ghost use Rattle.facts.specs.Facts.{has};
 ghost use Rattle.facts.specs.Words.{Word};
@@ -12,7 +15,7 @@ ghost use Rattle.named.specs.Named.{consumer_of, RowOf, RowAt};
 use tables::{Ask, Loaded};
 
 // Who has the conditions of a row, a job or End: its number, start and finish, and the gap before and behind it.
-#[derive(Drop)]
+#[derive(Clone, Copy)]
 pub struct Holder {
     pub me: usize,
     pub at: u32,
@@ -21,7 +24,7 @@ pub struct Holder {
 }
 
 // The conditions of a row by their named support: Start, or a job.
-#[derive(Drop)]
+#[derive(Clone, Copy)]
 pub struct Row {
     pub start: u64,
     pub by: [u64; 24],

@@ -1,14 +1,3 @@
-pub mod Loading
-pub mod Numbers
-pub mod Passed
-pub mod Tells
-pub mod Judges
-pub mod Fills
-pub mod Derives
-pub mod Exchanges
-pub mod Hands
-pub mod Edits
-pub mod FromOpen
 pub mod Fits
 pub mod Only
 pub mod Seconds

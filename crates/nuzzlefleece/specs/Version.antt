@@ -2,6 +2,6 @@
 -- Assumes nothing.
 use Rattle.std.specs.Prelude.{ℕ}
 
--- 1.11.0, as the header has it
+-- 1.10.0, as the header has it
 abbrev pub version : ℕ
-version = 11100
+version = 11000

@@ -1,5 +1,8 @@
 // The calls: over the caller's lent job records, under names of their own for C, with no condition on the caller.
-// A call over records takes them out and hands on to the call on a table by value, all in one form, so that one walk proves them.
+// A call over records takes them out and hands on to the call on a table by value, all in one form.
+
+#![tactic(auto)]
+
 ghost use Rattle.std.specs.Prelude.{◌≡◌};
 ghost use Rattle.rules.specs.Clashes.{clash_of, numbers};
 ghost use Rattle.interference.specs.Records.{record_masks};
@@ -39,7 +42,7 @@ use tables::{Action, Answer, Ask, Loaded};
 pub extern "C" fn nuzzlefleece_version() -> u32
     ensures { result ≡ version }
 {
-    11100
+    11000
 }
 
 // The verdict on an offered plan.
@@ -176,7 +179,7 @@ pub extern "C" fn nuzzlefleece_batches(groups: &[u8], t: &mut [Action]) -> Batch
 
 // What reading a job file says beside the records.
 #[repr(C)]
-#[derive(Drop)]
+#[derive(Clone, Copy)]
 pub struct ReadAnswer {
     pub answer: Answer,
     pub ask: Ask,
@@ -203,7 +206,7 @@ pub extern "C" fn nuzzlefleece_read_file(file: &[u8], t: &mut [Action]) -> ReadA
 
 // What a save is made of beside the records: the numbers, and how many bytes of the buffer are in use.
 #[repr(C)]
-#[derive(Drop)]
+#[derive(Clone, Copy)]
 pub struct Save {
     pub ask: Ask,
     pub used: usize,

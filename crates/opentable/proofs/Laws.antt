@@ -9,7 +9,8 @@ use native.Mathlib.Omega.{arith}
 use native.Mathlib.Numerals.{add-one}
 use lib.Dec.{T, eqb, ltb, eqb→eq, eqb_refl, ltb→lt, lt→ltb}
 use lib.ListN.{length, get_or, replicate, get_or-eq_default}
-use Rattle.facts.specs.Facts.{has, word_of}
+use Rattle.facts.specs.Facts.{has}
+use Rattle.readings.specs.Opening.{word_of}
 use Rattle.facts.proofs.Sets.{has_zero}
 use Rattle.facts.proofs.Bools.{T?, same, and_l, and_r, and_of, or_l, or_r, or_cases, or_at, chosen, unchosen}
 use Rattle.rules.specs.Table.{Problem}
@@ -23,7 +24,7 @@ use Rattle.tables.proofs.Lent.{filled_same}
 use Rattle.opentable.specs.declared.OpenTable.{OpenTable}
 use Rattle.opentable.specs.Open.{jobs_of, ask_of, present, places, bit_rows, kept_bit, clash_bit, moved_from, reclashed, without_job}
 use Rattle.opentable.specs.Steps.{Clashing, moved_jobs}
-use Rattle.facts.proofs.Given.{word_bit, word_is, word_same}
+use Rattle.opentable.proofs.Given.{word_bit, word_is, word_same}
 
 -- ── the bits of job k ──
 

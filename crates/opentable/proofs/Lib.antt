@@ -1,3 +1,4 @@
+pub mod Given
 pub mod Words
 pub mod Laws
 pub mod Edits

@@ -11,7 +11,8 @@ use mathlib.Core.Logic.{◌↔◌}
 use lib.Dec.{T, eqb, ltb, eqb→eq, eqb_refl, ltb→lt, lt→ltb, T_not}
 use lib.ListN.{length, get_or, set, replicate, length-replicate, length-set, get_or-eq_default}
 use lib.Seq.{get_or-set_same, get_or-set_other}
-use Rattle.facts.specs.Facts.{has, word_of}
+use Rattle.facts.specs.Facts.{has}
+use Rattle.readings.specs.Opening.{word_of}
 use Rattle.facts.proofs.Bools.{T?, same, and_l, and_r, and_of, or_l, or_r, eqb_of, at_most, chosen, unchosen}
 use Rattle.facts.proofs.Sets.{has_zero, same_word}
 use Rattle.rules.specs.Table.{Problem}
@@ -24,7 +25,7 @@ use Rattle.opentable.specs.declared.OpenTable.{OpenTable}
 use Rattle.opentable.specs.Open.{present, places, bit_rows, kept_bit, clash_bit, moved_from, empty_of, enlarged, exchanged, reclashed, without_job}
 use Rattle.opentable.specs.Rows.{Right}
 use Rattle.opentable.specs.Steps.{with_record}
-use Rattle.facts.proofs.Given.{word_in, word_bit, word_same}
+use Rattle.opentable.proofs.Given.{word_in, word_bit, word_same}
 
 -- ── bit by bit ──
 

@@ -8,12 +8,13 @@ use native.Mathlib.Omega.{arith}
 use lib.Bits.{bit_or, bit_and}
 use lib.Pow.{pow_pos}
 use lib.Dec.{T, eqb, ltb, eqb→eq, ltb→lt, lt→ltb}
-use Rattle.facts.specs.Facts.{has, word_of}
+use Rattle.facts.specs.Facts.{has}
+use Rattle.readings.specs.Opening.{word_of}
 use Rattle.facts.specs.Words.{Word}
 use Rattle.facts.proofs.Bools.{T?, same, and_l, or_cases, or_r, unchosen}
 use Rattle.facts.proofs.Digits.{digit, digit_zero, digit_not}
 use Rattle.facts.proofs.Sets.{digit_has, has_zero, has_lt, has_and, has_or, has_shr, word_with, below_pow}
-use Rattle.facts.proofs.Given.{word_is}
+use Rattle.opentable.proofs.Given.{word_is}
 use Rattle.opentable.specs.Open.{moved_from}
 
 -- a word with one bit set, and one with it cleared

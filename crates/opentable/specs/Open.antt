@@ -1,7 +1,8 @@
 -- The open job table: its present jobs, the rows of clash bits by the interference rule, and what each edit says and leaves.
 -- Assumes nothing.
 use Rattle.std.specs.Prelude.{◌≡◌, Bool, ◌&&◌, ◌||◌, cond, List, ℕ, suc, ◌+◌, ◌-◌, eqb, leb, ltb, get_or, set, replicate}
-use Rattle.facts.specs.Facts.{has, word_of}
+use Rattle.facts.specs.Facts.{has}
+use Rattle.readings.specs.Opening.{word_of}
 use Rattle.refusals.specs.Refusals.{Verdict, accepted, refuse_if}
 use Rattle.rules.specs.Table.{Problem, table_checks}
 use Rattle.rules.specs.Clashes.{interfere}

@@ -1,7 +1,7 @@
 -- What the steps of an edit promise.
 -- Assumes nothing.
 use Rattle.std.specs.Prelude.{◌≡◌, ◌&&◌, ℕ, ◌<◌, ltb, set}
-use Rattle.facts.specs.Facts.{word_of}
+use Rattle.readings.specs.Opening.{word_of}
 use Rattle.rules.specs.Clashes.{interfere}
 use Rattle.tables.specs.declared.Action.{Action}
 use Rattle.tables.specs.declared.Answer.{Answer}

@@ -1,6 +1,10 @@
 // The open job table: held by a service and edited job by job, with a row of clash bits a job.
+
+#![tactic(auto)]
+
 ghost use Rattle.std.specs.Prelude.{◌≡◌, cond, ◌≤◌, ◌<◌, eqb, get_or};
-ghost use Rattle.facts.specs.Facts.{has, word_of};
+ghost use Rattle.facts.specs.Facts.{has};
+ghost use Rattle.readings.specs.Opening.{word_of};
 ghost use Rattle.tables.specs.Tables.{record_at};
 ghost use Rattle.tables.specs.Steps.{Judges};
 ghost use Rattle.opentable.specs.Open.{jobs_of, ask_of, places, bit_rows, moved_from, empty_of, reclashed, without_job, edited, open_checks, beginning, adding, replacing, removing};
@@ -10,7 +14,7 @@ use tables::{Action, Answer, Ask, Loaded};
 
 // The atom count with the mark of its rule, how many jobs there are, the jobs, and of each a bit for every job with which it clashes.
 #[repr(C)]
-#[derive(Drop)]
+#[derive(Clone, Copy)]
 pub struct OpenTable {
     pub atoms: u8,
     pub count: usize,
@@ -20,7 +24,7 @@ pub struct OpenTable {
 
 // What a plan is wanted for, beside the jobs.
 #[repr(C)]
-#[derive(Drop)]
+#[derive(Clone, Copy)]
 pub struct Wanted {
     pub opening: u64,
     pub goals: u64,
@@ -29,14 +33,14 @@ pub struct Wanted {
 
 // The number of a job, and the record that comes in its place.
 #[repr(C)]
-#[derive(Drop)]
+#[derive(Clone, Copy)]
 pub struct Replacement {
     pub job: u8,
     pub record: Action,
 }
 
 // What an edit says, and the table after it.
-#[derive(Drop)]
+#[derive(Clone, Copy)]
 pub struct Edited {
     pub answer: Answer,
     pub table: OpenTable,

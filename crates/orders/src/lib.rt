@@ -1,4 +1,7 @@
 // The rules along windows and orders of pairs.
+
+#![tactic(auto)]
+
 ghost use Rattle.std.specs.Prelude.{◌≡◌, true, ◌<◌};
 ghost use Rattle.states.specs.State.{Search, Spaced, Dead};
 ghost use Rattle.cells.specs.View.{view, Prunes, Says, Always, From};

@@ -1,4 +1,7 @@
 // What a table sets out to the search: the lists it reads, and the state it begins from.
+
+#![tactic(auto)]
+
 ghost use Rattle.std.specs.Prelude.{◌≡◌, ◌+◌, ◌≤◌, ◌<◌, ◌^◌};
 ghost use Rattle.facts.specs.Words.{Decides};
 ghost use Rattle.rules.specs.Premises.{InOrder};
@@ -16,7 +19,7 @@ use reach::PairRows;
 use tables::{Action, Ask, Loaded};
 
 // What the search reads, and whether the goals are pairwise reachable.
-#[derive(Drop)]
+#[derive(Clone, Copy)]
 pub struct Outset {
     pub tables: Tables,
     pub goals: bool,

@@ -1,4 +1,7 @@
 // The text that bench-plan prints for a job file, put into a lent buffer.
+
+#![tactic(auto)]
+
 ghost use Rattle.std.specs.Prelude.{◌+◌, ◌*◌, ◌≤◌, ◌<◌, eqb, length};
 ghost use Rattle.rules.specs.Plans.{starts};
 ghost use Rattle.rules.specs.Premises.{InOrder};

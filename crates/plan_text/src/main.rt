@@ -1,93 +1,114 @@
 // Writes the plan of a job file as text, or checks a plan that is given as text. Standard input is a byte, 0 to write and 1 to check, the lengths of
 // the job file and of the name table, four bytes each, lowest byte first, and then the job file, the name table and the text.
-use libc::{STDIN_FILENO, STDOUT_FILENO};
+
+#![tactic(auto)]
+
+use std::io;
+use std::io::{Input, Print};
 use tables::{Answer, Ask, Loaded};
 
 // Prints a refusal as bench-plan does.
-fn refuse(a: Answer) {
-    io::write_all(STDOUT_FILENO, b"refused ");
-    io::print_decimal(STDOUT_FILENO, a.number as u64);
-    io::write_all(STDOUT_FILENO, b" ");
-    io::print_decimal(STDOUT_FILENO, a.place as u64);
-    io::write_all(STDOUT_FILENO, b"\n");
+fn refuse<R: Print>(rt: &R, a: Answer) -> io::Result<()> {
+    println!(rt; "refused {} {}", a.number, a.place)
 }
 
 // Writes the plan of the least bound.
-fn write(l: Loaded, q: Ask, names: &[u8], starts: &mut [u16], out: &mut [u8]) {
+fn write<R: Print>(
+    rt: &R,
+    l: Loaded,
+    q: Ask,
+    names: &[u8],
+    starts: &mut [u16],
+    out: &mut [u8],
+) -> io::Result<()> {
     let planned = planning::least_bound(l, q, starts);
     if planned.number != 0 {
-        refuse(planned);
-        return;
+        return refuse(rt, planned);
     }
     let a = plantext_write::write_text(l, q, names, starts, out);
     if a.number != 0 {
-        refuse(a);
-        return;
+        return refuse(rt, a);
     }
-    let n = io::count(a.value as isize, out);
-    io::write_all(STDOUT_FILENO, &out[..n]);
+    let n = (a.value as usize).min(out.len());
+    rt.write_all(&out[..n])
 }
 
 // Says whether the plan that the text gives is valid.
-fn check(l: Loaded, q: Ask, names: &[u8], text: &[u8], starts: &mut [u16]) {
+fn check<R: Print>(
+    rt: &R,
+    l: Loaded,
+    q: Ask,
+    names: &[u8],
+    text: &[u8],
+    starts: &mut [u16],
+) -> io::Result<()> {
     let read = plantext_read::read_text(l, q, names, text, starts);
     if read.number != 0 {
-        refuse(read);
-        return;
+        return refuse(rt, read);
     }
     let a = verdict::check_plan(l, q, starts);
     if a.number != 0 {
-        refuse(a);
-        return;
+        return refuse(rt, a);
     }
-    io::write_all(STDOUT_FILENO, b"valid\n");
+    rt.write_all(b"valid\n")
 }
 
 // Does what is asked of a job file with names.
-fn exchange(asked: u8, file: &[u8], names: &[u8], text: &[u8], out: &mut [u8]) {
+fn exchange<R: Print>(
+    rt: &R,
+    asked: u8,
+    file: &[u8],
+    names: &[u8],
+    text: &[u8],
+    out: &mut [u8],
+) -> io::Result<()> {
     let read = jobfile_read::read_file(file, 255);
     let a = read.answer;
     if a.number != 0 {
-        refuse(a);
-        return;
+        return refuse(rt, a);
     }
     let mut space = [65535u16; 24];
     let starts: &mut [u16] = &mut space;
     if asked == 0 {
-        write(read.table, read.ask, names, starts, out);
-        return;
+        return write(rt, read.table, read.ask, names, starts, out);
     }
-    check(read.table, read.ask, names, text, starts);
+    check(rt, read.table, read.ask, names, text, starts)
 }
 
 // Takes apart what stands behind the file; a length that is more than there is means all of it.
-fn with_file(asked: u8, told: u32, file: &[u8], rest: &[u8], out: &mut [u8]) {
-    let n = io::count(told as isize, rest);
-    exchange(asked, file, &rest[..n], &rest[n..], out);
+fn with_file<R: Print>(
+    rt: &R,
+    asked: u8,
+    told: u32,
+    file: &[u8],
+    rest: &[u8],
+    out: &mut [u8],
+) -> io::Result<()> {
+    let n = (told as usize).min(rest.len());
+    exchange(rt, asked, file, &rest[..n], &rest[n..], out)
 }
 
 // Takes apart what was read.
-fn take_apart(given: &[u8], out: &mut [u8]) {
+fn take_apart<R: Print>(rt: &R, given: &[u8], out: &mut [u8]) -> io::Result<()> {
     if given.len() < 9 {
-        refuse(tables::refuse(2, 0, 0));
-        return;
+        return refuse(rt, tables::refuse(2, 0, 0));
     }
     let file = bytes_le::number(given, 1, 4) as u32;
     let names = bytes_le::number(given, 5, 4) as u32;
     let rest = &given[9..];
-    let n = io::count(file as isize, rest);
-    with_file(given[0], names, &rest[..n], &rest[n..], out);
+    let n = (file as usize).min(rest.len());
+    with_file(rt, given[0], names, &rest[..n], &rest[n..], out)
 }
 
 // Reads as much as there is room for.
-fn run(space: &mut [u8], out: &mut [u8]) {
-    let n = io::read_full(STDIN_FILENO, space);
-    take_apart(&space[..n], out);
+fn run<R: Input + Print>(rt: &R, space: &mut [u8], out: &mut [u8]) -> io::Result<()> {
+    let n = streams::read_full(&mut rt.reader(), space)?;
+    take_apart(rt, &space[..n], out)
 }
 
 // One byte more than a job file may have, 16 bytes of names for each of 255 jobs, and 65,536 of text are read.
-fn main() {
+fn main(rt: HostRuntime) -> io::Result<()> {
     let mut space = [0u8; 135162];
     let mut out = [0u8; 1024];
-    run(&mut space, &mut out);
+    run(&rt, &mut space, &mut out)
 }

@@ -1,4 +1,7 @@
 // Planning within a bound, and the least bound.
+
+#![tactic(auto)]
+
 ghost use Rattle.std.specs.Prelude.{◌≡◌, ◌+◌, ◌≤◌, min};
 ghost use Rattle.rules.specs.Table.{Problem};
 ghost use Rattle.rules.specs.Premises.{enough_time, most};

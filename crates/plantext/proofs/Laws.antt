@@ -128,9 +128,11 @@ end_plain text at e p t = e ∙ sym (unchosen (point_at text (digits_end text at
 
 and_yes : (a b : Bool) → T a → (a && b) ≡ b
 and_yes true b h = refl
+and_yes false b h = absurd h
 
 or_not : (a b : Bool) → T a → (not a || b) ≡ b
 or_not true b h = refl
+or_not false b h = absurd h
 
 -- the parts of a number
 pub number_no : (text : List ℕ) (at : ℕ) {b : Bool} {e : ℕ} → e ≡ digits_end text at → b ≡ between (at + 1) (at + 4) e → not b ≡ true → false ≡ number_at text at

@@ -1,4 +1,7 @@
 // The form of a plan's text: letters, numbers and names at a place, and the name table.
+
+#![tactic(auto)]
+
 ghost use Rattle.std.specs.Prelude.{◌≡◌, true, not, ◌&&◌, ◌||◌, eqb, ◌+◌, ◌-◌, ◌*◌, ◌≤◌, ◌<◌, ◌^◌, length};
 ghost use Rattle.facts.specs.Least.{least};
 ghost use Rattle.refusals.specs.Refusals.{accepted};

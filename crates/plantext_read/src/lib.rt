@@ -1,4 +1,7 @@
 // Reading the text of a plan.
+
+#![tactic(auto)]
+
 ghost use Rattle.std.specs.Prelude.{◌≡◌, not, ◌||◌, ◌≤◌, ltb, length};
 ghost use Rattle.refusals.specs.Refusals.{accepted};
 ghost use Rattle.tables.specs.Tables.{problem, answer_of};
@@ -48,7 +51,7 @@ fn line_fault(
 }
 
 // What the lines say: the answer and, where it accepts, the starts.
-#[derive(Drop)]
+#[derive(Clone, Copy)]
 pub struct TextStarts {
     pub answer: Answer,
     pub starts: [u16; 24],

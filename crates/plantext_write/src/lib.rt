@@ -1,4 +1,7 @@
 // The text of a plan, written into a lent buffer.
+
+#![tactic(auto)]
+
 ghost use Rattle.std.specs.Prelude.{◌++◌, ◌+◌, ◌*◌, ◌≤◌, ◌<◌, length};
 ghost use Rattle.rules.specs.Plans.{starts};
 ghost use Rattle.tables.specs.Tables.{problem};

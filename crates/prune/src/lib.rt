@@ -1,4 +1,7 @@
 // Pruning by supports.
+
+#![tactic(auto)]
+
 ghost use Rattle.std.specs.Prelude.{ℕ, ◌+◌, ◌≤◌, ◌<◌, T};
 ghost use Rattle.facts.specs.Facts.{has};
 ghost use Rattle.cells.specs.View.{view, Prunes};

@@ -1,4 +1,7 @@
 // Which two facts can stand side by side in a state of a plan.
+
+#![tactic(auto)]
+
 ghost use Rattle.std.specs.Prelude.{◌≡◌, ◌&&◌, ◌||◌, ℕ, ◌≤◌, ◌<◌, T, get_or, set, length, replicate};
 ghost use Rattle.facts.specs.Facts.{has};
 ghost use Rattle.facts.specs.Words.{Word, Covers, Decides};
@@ -10,7 +13,7 @@ ghost use Rattle.reach.specs.Rows.{in_rows, FitIn, Seen, StayBeside, grown_row, 
 use tables::{Action, Ask, Loaded};
 
 // Bit q of row p: p and q can stand side by side.
-#[derive(Drop)]
+#[derive(Clone, Copy)]
 pub struct PairRows {
     pub rows: [u64; 64],
 }

@@ -7,7 +7,6 @@ use native.Mathlib.Decide.{dec_le}
 use lib.Dec.{T, ltb, le→leb}
 use lib.IntN.{ℤ, pos, neg_ℤ}
 use lib.Signed.{lt_z}
-use Rattle.facts.specs.Facts.{word_of}
 use Rattle.facts.specs.Words.{Word}
 use Rattle.facts.specs.Least.{least}
 use Rattle.facts.proofs.Bools.{or_r}
@@ -16,8 +15,8 @@ use Rattle.readings.specs.declared.BenchReading.{BenchReading}
 use Rattle.readings.specs.declared.Mark.{Mark}
 use Rattle.readings.specs.declared.Opening.{Opening}
 use Rattle.readings.specs.Marks.{Marks, bad}
-use Rattle.readings.specs.Opening.{opened, mark_checks, opening_answer, Opens}
-use Rattle.facts.proofs.Given.{word_is}
+use Rattle.readings.specs.Opening.{opened, word_of, mark_checks, opening_answer, Opens}
+use Rattle.readings.proofs.Words.{word_is}
 use Rattle.refusals.specs.Refusals.{Verdict, accepted}
 use Rattle.refusals.proofs.Refused.{at_hit, at_miss}
 
@@ -42,7 +41,7 @@ module _ (m : Marks) (r : ℕ) (found : r ≡ least (λ i. bad (m.mark i)) m.cou
       → record { number = 0; second = 0; place = 0; facts = w } ≡ opening_answer (mark_checks m accepted) (word_of (opened temperature humidity m given) 64) given
   unfolding mark_checks
   none_bad l temperature humidity given w h x =
-      ap (λ (facts : ℕ). opening_answer accepted facts given) (word_is (opened temperature humidity m given) 64 w h (λ p l. x p))
+      ap (λ (facts : ℕ). opening_answer accepted facts given) (word_is 64 (opened temperature humidity m given) w h x)
       ∙ ap (λ (v : Verdict). opening_answer v (word_of (opened temperature humidity m given) 64) given) (sym (at_miss _ _ 18 accepted found l))
 
 -- two answers that keep the promise at the same input are equal, refusals included

@@ -1,7 +1,8 @@
 -- Opening facts from a bench reading, refusals included.
 -- Assumes nothing.
-use Rattle.std.specs.Prelude.{◌≡◌, Bool, not, cond, ℕ, eqb, ltb, ℤ}
-use Rattle.facts.specs.Facts.{has, word_of}
+use Rattle.std.specs.Prelude.{◌≡◌, Bool, not, cond, ℕ, zero, suc, ◌^◌, eqb, ltb, ℤ}
+use Rattle.std.specs.Int.Bits.{bit_or}
+use Rattle.facts.specs.Facts.{has}
 use Rattle.refusals.specs.Refusals.{Verdict, accepted, refuse_if, refuse_at}
 use Rattle.tenths.specs.Tenths.{in_range, tenths}
 use Rattle.readings.specs.declared.BenchReading.{BenchReading}
@@ -11,6 +12,11 @@ use Rattle.readings.specs.Marks.{Marks, bad, marked, met}
 -- a marked fact is set if every mark on it is reached, else cleared; other facts stay as given
 abbrev pub opened : (temperature humidity : ℤ) → Marks → (given : ℕ) → ℕ → Bool
 opened temperature humidity m given p = cond (marked m p) (met temperature humidity m p) (has given p)
+
+-- the word of the facts below n that pass the test
+unfoldable pub word_of : (ℕ → Bool) → ℕ → ℕ
+word_of f zero = 0
+word_of f (suc p) = bit_or (word_of f p) (cond (f p) (2 ^ p) 0)
 
 -- check 18 of each mark: the lowest out of range
 unfoldable pub mark_checks : Marks → Verdict → Verdict

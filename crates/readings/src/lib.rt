@@ -1,23 +1,26 @@
 // Opening facts from a bench reading: which marks it reaches.
+
+#![tactic(auto)]
+
 ghost use Rattle.std.specs.Prelude.{◌≡◌, not, ◌&&◌, ◌||◌, ℕ, ◌<◌, ◌≤◌, eqb, ltb, length, get_or};
 ghost use Rattle.std.specs.Int.Signed.{le_z};
-ghost use Rattle.facts.specs.Facts.{has, word_of};
+ghost use Rattle.facts.specs.Facts.{has};
 ghost use Rattle.facts.specs.Words.{Word};
 ghost use Rattle.facts.specs.Least.{least, any};
 ghost use Rattle.refusals.specs.Refusals.{accepted};
 ghost use Rattle.readings.specs.Marks.{marks_of, mark_at, outside, bad, on_channel, missed, met};
-ghost use Rattle.readings.specs.Opening.{opened, mark_checks, opening_answer, Opens};
+ghost use Rattle.readings.specs.Opening.{opened, word_of, mark_checks, opening_answer, Opens};
 
 // What the probe sends: degrees and per cent.
 #[repr(C)]
-#[derive(Drop)]
+#[derive(Clone, Copy)]
 pub struct BenchReading {
     pub temperature: f64,
     pub humidity: f64,
 }
 
 // A mark: channel 0 is temperature, 1 humidity; the level is in tenths.
-#[derive(Drop)]
+#[derive(Clone, Copy)]
 pub struct Mark {
     pub channel: u8,
     pub level: i16,
@@ -26,7 +29,7 @@ pub struct Mark {
 
 // Number, second number and place are 0 on success; on refusal the facts are as given.
 #[repr(C)]
-#[derive(Drop)]
+#[derive(Clone, Copy)]
 pub struct Opening {
     pub number: u8,
     pub second: u8,

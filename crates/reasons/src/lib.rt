@@ -1,4 +1,7 @@
 // Why a job of settled starts starts when it does, and why there is no plan.
+
+#![tactic(auto)]
+
 ghost use Rattle.std.specs.Prelude.{◌≡◌, ◌&&◌, ◌+◌, ◌≤◌, ◌<◌, eqb, ltb, length};
 ghost use Rattle.facts.specs.Facts.{has};
 ghost use Rattle.facts.specs.Least.{least};
@@ -17,14 +20,14 @@ use tables::{Answer, Ask, Loaded};
 
 // What is asked of settled starts: the numbers of the settling, and the job whose start is to be explained.
 #[repr(C)]
-#[derive(Drop)]
+#[derive(Clone, Copy)]
 pub struct Question {
     pub ask: Ask,
     pub job: u8,
 }
 
 // A chain as it is gone back: the job asked about first, the first `count` of them.
-#[derive(Drop)]
+#[derive(Clone, Copy)]
 pub struct Back {
     pub jobs: [u8; 24],
     pub count: usize,
@@ -150,7 +153,7 @@ fn hindrance(l: Loaded, q: Ask, est: [u16; 24]) -> Hindrance
 
 // What is said of the want of a plan, and a reason for it as kind and fact: 64 where no fact is named.
 #[repr(C)]
-#[derive(Drop)]
+#[derive(Clone, Copy)]
 pub struct Reason {
     pub answer: Answer,
     pub kind: u8,

@@ -1,4 +1,7 @@
 // The caller's lent table of job records: taken into a table by value, and filled from one.
+
+#![tactic(auto)]
+
 ghost use Rattle.std.specs.Prelude.{◌≡◌, ◌≤◌, length};
 ghost use Rattle.tables.specs.Tables.{job_at, filled};
 ghost use Rattle.records.specs.Records.{loaded};

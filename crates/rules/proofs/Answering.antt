@@ -177,15 +177,15 @@ module _ (P : Problem) (s : Plan) where
   pub none_yet : WordsOf P s [] 0 0
   none_yet = record {
     allowed = tt;
-    starts = λ j. (λ t. absurd (has_zero j t), λ l. absurd (Memᴰ.not_nil l));
-    finishes = λ j. (λ t. absurd (has_zero j t), λ l. absurd (Memᴰ.not_nil l));
+    starts = λ j. (λ t. absurd (has_zero j t), λ l. absurd (Memᴰ.not-nil l));
+    finishes = λ j. (λ t. absurd (has_zero j t), λ l. absurd (Memᴰ.not-nil l));
   }
 
   -- and a job of the plan may start exactly where no job binds it
   pub at_first : (j : ℕ) → MayStart P s [] j ↔ (In P s j × ((a : ℕ) → In P s a → T (binds P s a j) → ⊥))
   at_first j = (
-    λ m. (m.there, λ a i b. Memᴰ.not_nil (m.free a i b)),
-    λ x. record { there = x.0; once = λ l. Memᴰ.not_nil l; free = λ a i b. absurd (x.1 a i b) },
+    λ m. (m.there, λ a i b. Memᴰ.not-nil (m.free a i b)),
+    λ x. record { there = x.0; once = λ l. Memᴰ.not-nil l; free = λ a i b. absurd (x.1 a i b) },
   )
 
   -- every allowed log has its words

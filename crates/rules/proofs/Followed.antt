@@ -63,7 +63,7 @@ module _ (st en : ℕ) where
 
   kept_at : (e : Event) (h : Log) → Logged e (kept h) → Logged e h × T (picks st en e)
   unfolding kept
-  kept_at e [] l = absurd (Memᴰ.not_nil l)
+  kept_at e [] l = absurd (Memᴰ.not-nil l)
   kept_at e (x ∷ h) l = ⊎_elim (λ w. (Memᴰ.head w.1, subst (λ (y : Event). T (picks st en y)) (sym w.1) w.0))
       (λ m. let r = kept_at e h m in (Memᴰ.tail r.0, r.1)) (if_cases (picks st en x) e x (kept h) l)
 

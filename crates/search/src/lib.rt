@@ -1,4 +1,7 @@
 // The search: the flaw picker and the repair trier.
+
+#![tactic(auto)]
+
 ghost use Rattle.lent.specs.Lent.{Lent};
 ghost use Rattle.leaves.specs.Leaf.{Resolves, AtRest, SettledBy};
 ghost use Rattle.search.specs.Search.{Some, FreeChoice, Tries, FirstRepair, SecondRepair};

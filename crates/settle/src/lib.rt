@@ -1,4 +1,7 @@
 // Settling of times.
+
+#![tactic(auto)]
+
 ghost use Rattle.std.specs.Prelude.{◌≡◌, not, ◌&&◌, ◌||◌, ◌/◌, ◌≤◌, ltb, length};
 ghost use Rattle.facts.specs.Facts.{has};
 ghost use Rattle.facts.specs.Least.{least};
@@ -86,7 +89,7 @@ fn settle_fault(l: Loaded, q: Ask, pairs: &[u8], out: usize) -> Answer
 }
 
 // What settling says, and the starts where it accepts.
-#[derive(Drop)]
+#[derive(Clone, Copy)]
 pub struct Settlement {
     pub answer: Answer,
     pub starts: [u16; 24],

@@ -1,4 +1,7 @@
 // Who can support a fact of a consumer: a job, or End for 24.
+
+#![tactic(auto)]
+
 ghost use Rattle.std.specs.Prelude.{◌≡◌, List, ℕ, ◌≤◌, ◌<◌};
 ghost use Rattle.facts.specs.Words.{Decides};
 ghost use Rattle.states.specs.State.{Search, surely_late, surely_done, useless, serves, there, StartMay};

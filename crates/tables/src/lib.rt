@@ -1,4 +1,7 @@
 // The table of jobs by value, and its checks.
+
+#![tactic(auto)]
+
 ghost use Rattle.std.specs.Prelude.{◌≡◌, not, ◌||◌, ◌≤◌, ◌<◌, min, ltb};
 ghost use Rattle.facts.specs.Least.{least};
 ghost use Rattle.refusals.specs.Refusals.{accepted, refused, refused_for};
@@ -8,7 +11,7 @@ ghost use Rattle.tables.specs.Steps.{with_job, job_fails, stray_record, Judges, 
 
 // A job as the caller keeps it.
 #[repr(C)]
-#[derive(Drop)]
+#[derive(Clone, Copy)]
 pub struct Action {
     pub conditions: u64,
     pub additions: u64,
@@ -18,7 +21,7 @@ pub struct Action {
 }
 
 // The first 24 records that were lent, and how many were lent.
-#[derive(Drop)]
+#[derive(Clone, Copy)]
 pub struct Loaded {
     pub jobs: [Action; 24],
     pub lent: usize,
@@ -66,7 +69,7 @@ pub fn job_at(l: Loaded, i: usize) -> Action
 
 // The numbers that a call is made with; the atom count has the mark of its rule, set and pairs are settling's.
 #[repr(C)]
-#[derive(Drop)]
+#[derive(Clone, Copy)]
 pub struct Ask {
     pub jobs: usize,
     pub atoms: u8,
@@ -99,7 +102,7 @@ pub fn gap(q: Ask) -> u16
 
 // What every call says: number, second number and place, all 0 on success, and the number returned.
 #[repr(C)]
-#[derive(Drop)]
+#[derive(Clone, Copy)]
 pub struct Answer {
     pub number: u8,
     pub second: u8,

@@ -1,11 +1,14 @@
 // Whole tenths of a 64-bit float, worked from its bits with no rounding.
+
+#![tactic(auto)]
+
 ghost use Rattle.std.specs.Prelude.{◌≡◌, ◌^◌, ◌<◌, ◌≤◌, T};
 ghost use Rattle.std.specs.Int.Signed.{shr_z};
 ghost use Rattle.tenths.specs.Tenths.{signed, in_range, tenths, measured};
 ghost use Rattle.tenths.specs.Bits.{digits_of, drop_of, floor_times};
 
 // What a float measures: its tenths are 0 where it is not finite and from -100 to 100.
-#[derive(Drop)]
+#[derive(Clone, Copy)]
 pub struct Measured {
     pub in_range: bool,
     pub tenths: i16,

@@ -1,4 +1,7 @@
 // Least starts that keep ordered pairs: starts are pushed along the pairs until a round changes nothing.
+
+#![tactic(auto)]
+
 ghost use Rattle.std.specs.Prelude.{◌≡◌, cond, ◌&&◌, ◌+◌, ◌≤◌, ◌<◌, ltb};
 ghost use Rattle.facts.specs.Facts.{has};
 ghost use Rattle.facts.specs.Words.{Decides};
@@ -10,7 +13,7 @@ ghost use Rattle.times.specs.Steps.{Ready, Begins, EndInTime, Pushes, Round, Rou
 use tables::{Ask, Loaded};
 
 // Starts, and whether there are such starts.
-#[derive(Drop)]
+#[derive(Clone, Copy)]
 pub struct Outcome {
     pub ok: bool,
     pub starts: [u16; 24],

@@ -1,4 +1,7 @@
 // Jobs that can stand for one another: turns of the jobs and facts of a table, looked for and checked.
+
+#![tactic(auto)]
+
 ghost use Rattle.std.specs.Prelude.{◌≡◌, true, ◌≤◌, ◌<◌};
 ghost use Rattle.tables.specs.Tables.{problem};
 ghost use Rattle.entries.specs.Entries.{entry};
@@ -8,7 +11,7 @@ ghost use Rattle.turns.specs.Checked.{Inverse, AllInverse, Moved, Image, SameTim
 use tables::{Action, Ask, Loaded};
 
 // The jobs and the facts that change places; not ok where one would have two.
-#[derive(Drop)]
+#[derive(Clone, Copy)]
 pub struct Guess {
     pub to: [u8; 24],
     pub fact: [u8; 64],

@@ -1,4 +1,7 @@
 // The verdict on an offered plan: refusals 3 to 9, 20, 11 to 14 and 21.
+
+#![tactic(auto)]
+
 ghost use Rattle.std.specs.Prelude.{◌≡◌, not, ◌&&◌, ◌+◌, ◌-◌, ◌<◌, T, eqb, ltb, length};
 ghost use Rattle.facts.specs.Facts.{has};
 ghost use Rattle.facts.specs.Words.{Word};

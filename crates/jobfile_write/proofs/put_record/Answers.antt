@@ -1,0 +1,26 @@
+use mathlib.Core.Path.{refl}
+use mathlib.Core.List.{[]}
+use Rattle.bytes_le.proofs.Fields.{put_fields}
+use Rattle.jobfile.specs.Format.{record_fields}
+use Rattle.jobfile_write.proofs.put_record.Goals as goal
+
+pub returns : goal.returns
+returns c =
+    let a = c.args in
+    put_fields (record_fields a.a) [] a.out.now 0 refl refl (
+      _,
+      c.put.ensures,
+      (
+        _,
+        c.put-2.ensures,
+        (
+          _,
+          c.put-3.ensures,
+          (
+            _,
+            c.put-4.ensures,
+            (_, c.put-5.ensures, (_, c.put-6.ensures, refl)),
+          ),
+        ),
+      ),
+    )

@@ -1,9 +1,0 @@
-use mathlib.Core.Path.{refl}
-use native.Mathlib.Omega.{arith}
-use borrow.Author.Tests.{lt-ltb}
-use borrow.Author.Rules.{rules}
-use Rattle.supports.proofs.serves_for.Statement.{statement}
-use Rattle.supports.proofs.serves_for.Tie as tie
-
-pub serves_for_spec : {M : Type 1} → statement M
-serves_for_spec = tie.close (tie.spec (λ c. rw c.if1.true refl) (λ c κs. search rules) (λ c. rw (lt-ltb c.before.before.args.b 24 (omega arith)) c.sure.ensures))
