@@ -23,9 +23,9 @@
 extern "C" {
 #endif
 
-/* The version that this header describes, 10,000 times the first number, 100 times the second, and the third: 1.11.0.
+/* The version that this header describes, 10,000 times the first number, 100 times the second, and the third: 1.10.0.
  * nuzzlefleece_version() returns that of the library linked; where the two differ, header and library are not of one build. */
-#define NUZZLEFLEECE_VERSION 11100
+#define NUZZLEFLEECE_VERSION 11000
 
 /* Sizes and limits. A fact is a number below the atom count; a word of facts has fact 0 in its lowest bit. */
 enum {
@@ -149,7 +149,7 @@ static inline const char *nuzzlefleece_words(unsigned number) {
         "following: words that no allowed events give, or an event that is not allowed",
         "a release over 2,880",
         "offered plan: a job starts before its release",
-        "an edit of a job that is not there",
+        NULL, /* 22: no such refusal */
         "text: a line outside the form, or a start over 2,880",
         "text: no job has the name",
         "text: a job twice",

@@ -15,7 +15,7 @@ letters, digits or hyphens. Lines stand in any order; no lines are the plan with
 
 `write` plans the jobs within the bound of JOBS and writes the plan of the least bound, by start, then job, each number with
 three zeros. `check` reads a plan, checks it within the bound of JOBS, and prints `valid`. Both ask the proved program
-plan_text, which 'rt check plan_text' builds.
+plan_text, which 'tools/build plan_text' builds.
 
 Status 0 where the plan is written or valid. Status 1 with a line on standard error where JOBS is wrong, a job's name has more
 than 16 letters, PLAN has more than 65536 bytes, or the planner refuses: the refusal in words, with the job, the fact or the

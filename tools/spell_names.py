@@ -4,9 +4,9 @@
 usage: spell_names.py [--check]      at the top of the repository, once, behind the toolchain's own scripts
 
 Read are the names that crates/*/specs and crates/*/proofs declare; turned is every place that cites one, in those files, in the
-clauses and `ghost use` lines of crates/*/src and in the lines of crates/*/must-fail. A name that a file imports from a library stays
+lines of crates/*/src that are no comment and in those of crates/*/must-fail. A name that a file imports from a library stays
 there; so does a name behind `tie.`, `goal.` or `c.`, which the toolchain makes of the code. A lemma that would get the name of a
-definition gets `_lem` behind it. --check writes nothing. A line that begins 'look:' names two that a file would have as one.
+definition gets `_lem` behind it. --check writes nothing.
 """
 
 import collections

@@ -1834,11 +1834,11 @@ static void describes_itself(void) {
     expect("version", nuzzlefleece_version() == NUZZLEFLEECE_VERSION);
     expect("a record has 32 bytes", sizeof(nuzzlefleece_action) == NUZZLEFLEECE_RECORD_BYTES);
     for (unsigned number = 0; number <= NUZZLEFLEECE_OVERRUN_WRONG + 1; number++) {
-        int known = number <= NUZZLEFLEECE_BATCHES_TOO_LARGE || number == NUZZLEFLEECE_NAMES_WRONG || number == NUZZLEFLEECE_OVERRUN_WRONG;
+        int known = number <= NUZZLEFLEECE_BEFORE_RELEASE || (number >= NUZZLEFLEECE_LINE_WRONG && number <= NUZZLEFLEECE_BATCHES_TOO_LARGE)
+            || number == NUZZLEFLEECE_NAMES_WRONG || number == NUZZLEFLEECE_OVERRUN_WRONG;
         expect("words of a refusal, and of no other", (strcmp(nuzzlefleece_words(number), "no such refusal") != 0) == known);
     }
     expect("words of 20", strcmp(nuzzlefleece_words(NUZZLEFLEECE_RELEASE_WRONG), "a release over 2,880") == 0);
-    expect("words of 22", strcmp(nuzzlefleece_words(NUZZLEFLEECE_NO_SUCH_JOB), "an edit of a job that is not there") == 0);
     expect("words of 23", strcmp(nuzzlefleece_words(NUZZLEFLEECE_LINE_WRONG), "text: a line outside the form, or a start over 2,880") == 0);
     expect("words of 24", strcmp(nuzzlefleece_words(NUZZLEFLEECE_NAME_UNKNOWN), "text: no job has the name") == 0);
     expect("words of 25", strcmp(nuzzlefleece_words(NUZZLEFLEECE_JOB_TWICE), "text: a job twice") == 0);

@@ -195,7 +195,7 @@ def unbuilt_cases(room):
     alone = os.path.join(room.name, 'alone')
     shutil.copytree(os.path.join(ROOT, 'tools'), os.path.join(alone, 'tools'))
     call = lambda: run('write', '-', given=P3, tool=os.path.join(alone, 'tools/plan-text'), cwd=alone)
-    yield 'no program', call() == (2, '', "plan-text: run-program: no program plan_text; 'rt check' builds it\n")
+    yield 'no program', call() == (2, '', "plan-text: run-program: no program plan_text; 'tools/build' builds it\n")
     os.makedirs(os.path.join(alone, 'target/bin'))
     with open(os.path.join(alone, 'target/bin/plan_text'), 'w', encoding='utf-8') as file:
         file.write('no program')
