@@ -1,4 +1,4 @@
-// The calls: over the caller's lent job records, under names of their own for C, with no condition on the caller.
+// The calls: over the caller's lent job records, with no condition on the caller; `nuzzlefleece_c` exports each under its name for C.
 // A call over records takes them out and hands on to the call on a table by value, all in one form.
 
 #![tactic(auto)]
@@ -38,16 +38,14 @@ use rules::ClashNumbers;
 use tables::{Action, Answer, Ask, Loaded};
 
 // The version of the library: 10,000 times the first number, 100 times the second, and the third.
-#[unsafe(no_mangle)]
-pub extern "C" fn nuzzlefleece_version() -> u32
+pub fn nuzzlefleece_version() -> u32
     ensures { result ≡ version }
 {
     11000
 }
 
 // The verdict on an offered plan.
-#[unsafe(no_mangle)]
-pub extern "C" fn nuzzlefleece_check_plan(t: &[Action], q: Ask, starts: &[u16]) -> Answer
+pub fn nuzzlefleece_check_plan(t: &[Action], q: Ask, starts: &[u16]) -> Answer
     ensures { ChecksPlan (loaded t.now) q starts.now result }
 {
     let l = records::load(t);
@@ -55,16 +53,14 @@ pub extern "C" fn nuzzlefleece_check_plan(t: &[Action], q: Ask, starts: &[u16]) 
 }
 
 // Why two jobs with these records clash, by kind and lowest fact.
-#[unsafe(no_mangle)]
-pub extern "C" fn nuzzlefleece_why_clash(one: Action, other: Action) -> ClashNumbers
+pub fn nuzzlefleece_why_clash(one: Action, other: Action) -> ClashNumbers
     ensures { result ≡ numbers (clash_of (record_masks one) (record_masks other)) }
 {
     interference::why_clash(one, other)
 }
 
 // The first valid plan within the bound, in the stated order.
-#[unsafe(no_mangle)]
-pub extern "C" fn nuzzlefleece_plan_within(t: &[Action], q: Ask, out: &mut [u16]) -> Answer
+pub fn nuzzlefleece_plan_within(t: &[Action], q: Ask, out: &mut [u16]) -> Answer
     ensures { PlansWithin (loaded t.now) q out.old out.new result }
 {
     let l = records::load(t);
@@ -72,8 +68,7 @@ pub extern "C" fn nuzzlefleece_plan_within(t: &[Action], q: Ask, out: &mut [u16]
 }
 
 // The least bound, with the first plan at it.
-#[unsafe(no_mangle)]
-pub extern "C" fn nuzzlefleece_least_bound(t: &[Action], q: Ask, out: &mut [u16]) -> Answer
+pub fn nuzzlefleece_least_bound(t: &[Action], q: Ask, out: &mut [u16]) -> Answer
     ensures { BoundsWithin (loaded t.now) q out.old out.new result }
 {
     let l = records::load(t);
@@ -81,13 +76,7 @@ pub extern "C" fn nuzzlefleece_least_bound(t: &[Action], q: Ask, out: &mut [u16]
 }
 
 // The table of supports of a valid plan, 64 bytes a job and 64 for End.
-#[unsafe(no_mangle)]
-pub extern "C" fn nuzzlefleece_supports(
-    t: &[Action],
-    q: Ask,
-    starts: &[u16],
-    out: &mut [u8],
-) -> Answer
+pub fn nuzzlefleece_supports(t: &[Action], q: Ask, starts: &[u16], out: &mut [u8]) -> Answer
     ensures { Supports (loaded t.now) q starts.now out.old out.new result }
 {
     let l = records::load(t);
@@ -95,13 +84,7 @@ pub extern "C" fn nuzzlefleece_supports(
 }
 
 // The binding pairs of a valid plan, two bytes a pair, and their count.
-#[unsafe(no_mangle)]
-pub extern "C" fn nuzzlefleece_binding_pairs(
-    t: &[Action],
-    q: Ask,
-    starts: &[u16],
-    out: &mut [u8],
-) -> Answer
+pub fn nuzzlefleece_binding_pairs(t: &[Action], q: Ask, starts: &[u16], out: &mut [u8]) -> Answer
     ensures { Pairs (loaded t.now) q starts.now out.old out.new result }
 {
     let l = records::load(t);
@@ -109,8 +92,7 @@ pub extern "C" fn nuzzlefleece_binding_pairs(
 }
 
 // The words of started and finished jobs after an event of a plan's job, the facts now, and the jobs that may start.
-#[unsafe(no_mangle)]
-pub extern "C" fn nuzzlefleece_follow(t: &[Action], w: Watch, starts: &[u16]) -> Screen
+pub fn nuzzlefleece_follow(t: &[Action], w: Watch, starts: &[u16]) -> Screen
     ensures { Following (loaded t.now) w starts.now result }
 {
     let l = records::load(t);
@@ -118,8 +100,7 @@ pub extern "C" fn nuzzlefleece_follow(t: &[Action], w: Watch, starts: &[u16]) ->
 }
 
 // When all is finished at the latest, where each job of a valid plan runs over by up to so many quarter hours.
-#[unsafe(no_mangle)]
-pub extern "C" fn nuzzlefleece_how_late(t: &[Action], o: Overruns, starts: &[u16]) -> Answer
+pub fn nuzzlefleece_how_late(t: &[Action], o: Overruns, starts: &[u16]) -> Answer
     ensures { HowLate (loaded t.now) o starts.now result }
 {
     let l = records::load(t);
@@ -127,8 +108,7 @@ pub extern "C" fn nuzzlefleece_how_late(t: &[Action], o: Overruns, starts: &[u16
 }
 
 // The earliest estimates, one a job.
-#[unsafe(no_mangle)]
-pub extern "C" fn nuzzlefleece_earliest(t: &[Action], q: Ask, out: &mut [u16]) -> Answer
+pub fn nuzzlefleece_earliest(t: &[Action], q: Ask, out: &mut [u16]) -> Answer
     ensures { Earliest (loaded t.now) q out.old out.new result }
 {
     let l = records::load(t);
@@ -136,8 +116,7 @@ pub extern "C" fn nuzzlefleece_earliest(t: &[Action], q: Ask, out: &mut [u16]) -
 }
 
 // The least starts, one a job, for pairs of two bytes each.
-#[unsafe(no_mangle)]
-pub extern "C" fn nuzzlefleece_settle(t: &[Action], q: Ask, pairs: &[u8], out: &mut [u16]) -> Answer
+pub fn nuzzlefleece_settle(t: &[Action], q: Ask, pairs: &[u8], out: &mut [u16]) -> Answer
     ensures { Settling (loaded t.now) q pairs.now out.old out.new result }
 {
     let l = records::load(t);
@@ -145,13 +124,7 @@ pub extern "C" fn nuzzlefleece_settle(t: &[Action], q: Ask, pairs: &[u8], out: &
 }
 
 // The chain of asked pairs that ends at a job of settled starts, first job first, and how many jobs it has.
-#[unsafe(no_mangle)]
-pub extern "C" fn nuzzlefleece_why_start(
-    t: &[Action],
-    q: Question,
-    pairs: &[u8],
-    out: &mut [u8],
-) -> Answer
+pub fn nuzzlefleece_why_start(t: &[Action], q: Question, pairs: &[u8], out: &mut [u8]) -> Answer
     ensures { WhyStart (loaded t.now) q pairs.now out.old out.new result }
 {
     let l = records::load(t);
@@ -159,8 +132,7 @@ pub extern "C" fn nuzzlefleece_why_start(
 }
 
 // Why there is no plan within the bound: a goal never reachable, a goal above the bound, or neither.
-#[unsafe(no_mangle)]
-pub extern "C" fn nuzzlefleece_why_no_plan(t: &[Action], q: Ask) -> Reason
+pub fn nuzzlefleece_why_no_plan(t: &[Action], q: Ask) -> Reason
     ensures { WhyNoPlan (loaded t.now) q result }
 {
     let l = records::load(t);
@@ -168,8 +140,7 @@ pub extern "C" fn nuzzlefleece_why_no_plan(t: &[Action], q: Ask) -> Reason
 }
 
 // Expands batches, a house group each, into the lent records, one a job; those behind the last job stay as they are. No bound comes out.
-#[unsafe(no_mangle)]
-pub extern "C" fn nuzzlefleece_batches(groups: &[u8], t: &mut [Action]) -> BatchAnswer
+pub fn nuzzlefleece_batches(groups: &[u8], t: &mut [Action]) -> BatchAnswer
     ensures { Batches groups.now t.old t.new result }
 {
     let r = batches::expand(groups, t.len());
@@ -195,8 +166,7 @@ fn told(r: Read) -> ReadAnswer
 }
 
 // Reads a job file into the lent records, one a job; those behind the last job stay as they are.
-#[unsafe(no_mangle)]
-pub extern "C" fn nuzzlefleece_read_file(file: &[u8], t: &mut [Action]) -> ReadAnswer
+pub fn nuzzlefleece_read_file(file: &[u8], t: &mut [Action]) -> ReadAnswer
     ensures { Reads file.now t.old t.new result }
 {
     let r = jobfile_read::read_file(file, t.len());
@@ -220,8 +190,7 @@ fn append(l: Loaded, s: Save, buf: &mut [u8]) -> Answer
 }
 
 // Appends a save behind the bytes used, and returns the new length.
-#[unsafe(no_mangle)]
-pub extern "C" fn nuzzlefleece_write_file(t: &[Action], s: Save, buf: &mut [u8]) -> Answer
+pub fn nuzzlefleece_write_file(t: &[Action], s: Save, buf: &mut [u8]) -> Answer
     ensures { Writes (loaded t.now) s.ask s.used buf.old buf.new result }
 {
     let l = records::load(t);
@@ -229,16 +198,14 @@ pub extern "C" fn nuzzlefleece_write_file(t: &[Action], s: Save, buf: &mut [u8])
 }
 
 // Moves the last save of the bytes in use to the front of the buffer, and returns the new length.
-#[unsafe(no_mangle)]
-pub extern "C" fn nuzzlefleece_tidy(used: usize, buf: &mut [u8]) -> Answer
+pub fn nuzzlefleece_tidy(used: usize, buf: &mut [u8]) -> Answer
     ensures { Tidies used buf.old buf.new result }
 {
     jobfile_tidy::tidy(used, buf)
 }
 
 // Reads the text of a plan, a line a step, into the starts, one a job; a job without a line is out. The names are 16 bytes a job.
-#[unsafe(no_mangle)]
-pub extern "C" fn nuzzlefleece_read_text(
+pub fn nuzzlefleece_read_text(
     t: &[Action],
     q: Ask,
     names: &[u8],
@@ -252,8 +219,7 @@ pub extern "C" fn nuzzlefleece_read_text(
 }
 
 // Writes the text of a valid plan, a line a step, into the first bytes of a lent buffer; its length comes back.
-#[unsafe(no_mangle)]
-pub extern "C" fn nuzzlefleece_write_text(
+pub fn nuzzlefleece_write_text(
     t: &[Action],
     q: Ask,
     names: &[u8],
@@ -267,8 +233,7 @@ pub extern "C" fn nuzzlefleece_write_text(
 }
 
 // Begins a lent table without jobs.
-#[unsafe(no_mangle)]
-pub extern "C" fn nuzzlefleece_begin(t: &mut OpenTable, atoms: u8) -> Answer
+pub fn nuzzlefleece_begin(t: &mut OpenTable, atoms: u8) -> Answer
     ensures { Leaves (beginning t.old atoms) t.new result }
 {
     let s = opentable::begun(*t, atoms);
@@ -277,8 +242,7 @@ pub extern "C" fn nuzzlefleece_begin(t: &mut OpenTable, atoms: u8) -> Answer
 }
 
 // Adds a job behind the last one of a lent table, and returns its number.
-#[unsafe(no_mangle)]
-pub extern "C" fn nuzzlefleece_add(t: &mut OpenTable, a: Action) -> Answer
+pub fn nuzzlefleece_add(t: &mut OpenTable, a: Action) -> Answer
     ensures { Leaves (adding t.old a) t.new result }
 {
     let s = opentable::added(*t, a);
@@ -287,8 +251,7 @@ pub extern "C" fn nuzzlefleece_add(t: &mut OpenTable, a: Action) -> Answer
 }
 
 // Replaces a job of a lent table.
-#[unsafe(no_mangle)]
-pub extern "C" fn nuzzlefleece_replace(t: &mut OpenTable, r: Replacement) -> Answer
+pub fn nuzzlefleece_replace(t: &mut OpenTable, r: Replacement) -> Answer
     ensures { Leaves (replacing t.old r) t.new result }
 {
     let s = opentable::replaced(*t, r);
@@ -297,8 +260,7 @@ pub extern "C" fn nuzzlefleece_replace(t: &mut OpenTable, r: Replacement) -> Ans
 }
 
 // Removes a job of a lent table; the later jobs move down by one.
-#[unsafe(no_mangle)]
-pub extern "C" fn nuzzlefleece_remove(t: &mut OpenTable, job: u8) -> Answer
+pub fn nuzzlefleece_remove(t: &mut OpenTable, job: u8) -> Answer
     ensures { Leaves (removing t.old job) t.new result }
 {
     let s = opentable::removed(*t, job);
@@ -314,8 +276,7 @@ fn plan_from(t: OpenTable, w: Wanted, out: &mut [u16]) -> Answer
 }
 
 // The first valid plan of a lent table within the bound, in the stated order.
-#[unsafe(no_mangle)]
-pub extern "C" fn nuzzlefleece_plan_open(t: &OpenTable, w: Wanted, out: &mut [u16]) -> Answer
+pub fn nuzzlefleece_plan_open(t: &OpenTable, w: Wanted, out: &mut [u16]) -> Answer
     ensures { PlansWithin (jobs_of t.now) (ask_of t.now w) out.old out.new result }
 {
     plan_from(*t, w, out)
@@ -329,16 +290,14 @@ fn least_from(t: OpenTable, w: Wanted, out: &mut [u16]) -> Answer
 }
 
 // The least bound of a lent table, with the first plan at it.
-#[unsafe(no_mangle)]
-pub extern "C" fn nuzzlefleece_least_bound_open(t: &OpenTable, w: Wanted, out: &mut [u16]) -> Answer
+pub fn nuzzlefleece_least_bound_open(t: &OpenTable, w: Wanted, out: &mut [u16]) -> Answer
     ensures { BoundsWithin (jobs_of t.now) (ask_of t.now w) out.old out.new result }
 {
     least_from(*t, w, out)
 }
 
 // Opening facts from a reading. The marks stand side by side in the three tables, the first `count` of each.
-#[unsafe(no_mangle)]
-pub extern "C" fn nuzzlefleece_opening_facts(
+pub fn nuzzlefleece_opening_facts(
     reading: BenchReading,
     channels: &[u8],
     levels: &[i16],
@@ -352,8 +311,7 @@ pub extern "C" fn nuzzlefleece_opening_facts(
 }
 
 // What bench-plan prints of a job file, into the first bytes of a lent buffer; its length comes back.
-#[unsafe(no_mangle)]
-pub extern "C" fn nuzzlefleece_page(file: &[u8], out: &mut [u8]) -> Answer
+pub fn nuzzlefleece_page(file: &[u8], out: &mut [u8]) -> Answer
     ensures { Pages file.now out.old out.new result }
 {
     page::page(file, out)
