@@ -9,8 +9,8 @@ use tables::Answer;
 
 // Writes a refusal.
 fn refuse<R: Print>(rt: &R, a: Answer) -> io::Result<()> {
-    let said = [a.number, (a.place % 256) as u8, (a.place / 256) as u8];
-    rt.write_all(&said)
+    let [low, high] = a.place.to_le_bytes();
+    rt.write_all(&[a.number, low, high])
 }
 
 // Writes what the batches make.

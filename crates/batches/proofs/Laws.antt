@@ -1,21 +1,24 @@
 -- What is so of every house group, and of the sums that number jobs and facts.
 -- Assumes nothing.
-use mathlib.Core.Path.{◌≡◌, refl, ap, ◌∙◌, subst}
+use mathlib.Core.Path.{◌≡◌, refl, sym, ap, ◌∙◌, subst}
 use mathlib.Core.Logic.{⊎_elim}
 use mathlib.Core.Bool.{Bool, true, false, ◌&&◌, cond}
 use mathlib.Core.List.{List, [], ◌∷◌}
+use Rattle.std.specs.List.{sum_by}
+use Rattle.std.proofs.Common.{Bor, take_all}
+use Rattle.std.proofs.lemmas.List.Sums.{sum_by_more}
 use Prim.Native.Nat.{ℕ, zero, suc, ◌+◌, ◌-◌, ◌*◌, ◌≤◌, ◌<◌}
 use native.Mathlib.Nat.{add_comm}
 use native.Mathlib.Numerals.{add-one}
 use native.Mathlib.Omega.{arith}
 use native.Mathlib.Decide.{dec_lt}
 use lib.Dec.{T, leb, leb→le}
-use lib.ListN.{length, get_or}
+use lib.ListN.{length, get_or, get_or-map, take}
 use Rattle.facts.proofs.Bools.{chosen, and_l, and_r, or_at}
 use Rattle.rules.specs.Sums.{sum}
 use Rattle.rules.proofs.Sums.{sum_le, sum_of}
 use Rattle.batches.specs.declared.Stage.{Stage}
-use Rattle.batches.specs.Groups.{bench_stage, bay_stage, house_groups}
+use Rattle.batches.specs.Groups.{bench_stage, house_groups}
 use Rattle.batches.specs.Batches.{group_stages, batch_stages, stage_at, jobs_for, jobs_up_to, first_job, first_done}
 use Rattle.batches.specs.Steps.{AllKnown}
 
@@ -69,83 +72,9 @@ group_fair g l =
           (leb→le 1 s.duration (and_l (leb 1 s.duration) _ f), leb→le s.duration 960 (and_r (leb 1 s.duration) _ f));
     }
 
--- behind the last stage stands none
-stage_past : (ss : List Stage) (i : ℕ) → length ss ≤ i → stage_at ss i ≡ bench_stage 0
-stage_past [] i l = refl
-stage_past (s ∷ ss) zero l = absurd (omega arith)
-stage_past (s ∷ ss) (suc i) l = stage_past ss i (omega arith)
-
-short : (ss : List Stage) → Fair ss → (i : ℕ) → (stage_at ss i).duration ≤ 960
-short ss f i = go (dec_lt i (length ss))
-  where
-    go : Dec (i < length ss) → (stage_at ss i).duration ≤ 960
-    go (yes l) = (f.long i l).1
-    go (no n) = let e : (stage_at ss i).duration ≡ 0 = ap (λ (s : Stage). s.duration) (stage_past ss i (omega arith)) in omega arith
-
--- the first stage of no length is one behind the last
-module _ (ss : List Stage) (f : Fair ss) (i : ℕ) (l : i ≤ length ss) where
-  pub ends_here : (stage_at ss i).duration ≡ 0 → i ≡ length ss
-  ends_here e = ⊎_elim (λ m. absurd (omega (arith, (f.long i m).0))) (λ h. h) (or_at i (length ss) l)
-
-  pub goes_on : ((stage_at ss i).duration ≡ 0 → ⊥) → i < length ss
-  goes_on n = ⊎_elim (λ m. m) (λ h. absurd (n (ap (λ (s : Stage). s.duration) (stage_past ss i (omega arith))))) (or_at i (length ss) l)
-
--- ── the groups as the code holds them: a row of six cells a group ──
-
--- a stage as one number: 1,000 more where it holds the bay
-abbrev pub cell_of : Stage → ℕ
-cell_of s = cond s.bay (1000 + s.duration) s.duration
-
-cell_low : (s : Stage) → cell_of s < 1000 → bench_stage (cell_of s) ≡ s
-cell_low s l = go s.duration s.bay l
-  where
-    go : (d : ℕ) (b : Bool) → cond b (1000 + d) d < 1000 → bench_stage (cond b (1000 + d) d) ≡ record { duration = d; bay = b }
-    go d true m = absurd (omega arith)
-    go d false m = refl
-
-cell_high : (s : Stage) → s.duration ≤ 960 → 1000 ≤ cell_of s → bay_stage (cell_of s - 1000) ≡ s
-cell_high s h l = go s.duration s.bay h l
-  where
-    go : (d : ℕ) (b : Bool) → d ≤ 960 → 1000 ≤ cond b (1000 + d) d → bay_stage (cond b (1000 + d) d - 1000) ≡ record { duration = d; bay = b }
-    go d true k m = let e : 1000 + d - 1000 ≡ d = omega arith in ap bay_stage e
-    go d false k m = absurd (omega arith)
-
-unfoldable pub row : {A : Type 0} → ℕ → (Stage → A) → List Stage → List A
-row zero f ss = []
-row (suc n) f [] = f (bench_stage 0) ∷ row n f []
-row (suc n) f (s ∷ ss) = f s ∷ row n f ss
-
-unfoldable pub rows : {A : Type 0} → (Stage → A) → List (List Stage) → List (List A)
-rows f [] = []
-rows f (ss ∷ gs) = row 6 f ss ∷ rows f gs
-
-row_at : {A : Type 0} (n : ℕ) (f : Stage → A) (ss : List Stage) (i : ℕ) (d : A) → i < n → get_or (row n f ss) i d ≡ f (stage_at ss i)
-unfolding row
-row_at zero f ss i d l = absurd (omega arith)
-row_at (suc n) f [] zero d l = refl
-row_at (suc n) f [] (suc i) d l = row_at n f [] i d (omega arith)
-row_at (suc n) f (s ∷ ss) zero d l = refl
-row_at (suc n) f (s ∷ ss) (suc i) d l = row_at n f ss i d (omega arith)
-
-rows_at : {A : Type 0} (f : Stage → A) (gs : List (List Stage)) (g i : ℕ) (d : A) → g < length gs → i < 6 → get_or (get_or (rows f gs) g []) i d ≡ f (stage_at (get_or gs g []) i)
-unfolding rows
-rows_at f [] g i d l m = absurd (omega arith)
-rows_at f (ss ∷ gs) zero i d l m = row_at 6 f ss i d m
-rows_at f (ss ∷ gs) (suc g) i d l m = rows_at f gs g i d (omega arith) m
-
--- what a cell says of its stage
-module _ (g i : ℕ) (l : g < 12) (m : i < 6) where
-  abbrev cell : ℕ
-  cell = get_or (get_or (rows cell_of house_groups) g []) i 0
-
-  here : cell ≡ cell_of (stage_at (group_stages g) i)
-  here = rows_at cell_of house_groups g i 0 (known_group g l) m
-
-  pub bench_cell : cell < 1000 → bench_stage cell ≡ stage_at (group_stages g) i
-  bench_cell h = ap bench_stage here ∙ cell_low (stage_at (group_stages g) i) (omega (arith, here))
-
-  pub bay_cell : 1000 ≤ cell → bay_stage (cell - 1000) ≡ stage_at (group_stages g) i
-  bay_cell h = ap (λ (n : ℕ). bay_stage (n - 1000)) here ∙ cell_high (stage_at (group_stages g) i) (short (group_stages g) (group_fair g l) i) (omega (arith, here))
+-- of the twelve lists that code points at, the list at g
+pub pointed : (a b c d e f h i j k l m none : Bor (List Stage)) (g : ℕ) → (get_or (a ∷ b ∷ c ∷ d ∷ e ∷ f ∷ h ∷ i ∷ j ∷ k ∷ l ∷ m ∷ []) g none).now ≡ get_or (a.now ∷ b.now ∷ c.now ∷ d.now ∷ e.now ∷ f.now ∷ h.now ∷ i.now ∷ j.now ∷ k.now ∷ l.now ∷ m.now ∷ []) g none.now
+pointed a b c d e f h i j k l m none g = sym (get_or-map (λ (x : Bor (List Stage)). x.now) (a ∷ b ∷ c ∷ d ∷ e ∷ f ∷ h ∷ i ∷ j ∷ k ∷ l ∷ m ∷ []) g none)
 
 -- ── sums ──
 
@@ -156,6 +85,16 @@ sum_none f = refl
 pub sum_next : (f : ℕ → ℕ) (n : ℕ) → sum f (n + 1) ≡ sum f n + f n
 unfolding sum
 sum_next f n = ap (sum f) (add-one n) ∙ add_comm (f n) (sum f n)
+
+-- the sum over a list is that over its places
+sum_taken : {A : Type 0} (f : A → ℕ) (xs : List A) (d : A) (n : ℕ) → n ≤ length xs → sum_by f (take n xs) ≡ sum (λ j. f (get_or xs j d)) n
+sum_taken f xs d zero l = sym (sum_none (λ j. f (get_or xs j d)))
+sum_taken f xs d (suc n) l =
+    let g : ℕ → ℕ = λ j. f (get_or xs j d) in
+    subst (λ (m : ℕ). sum_by f (take m xs) ≡ sum g m) (add-one n) (sum_by_more f xs n d (omega arith) ∙ ap (λ (m : ℕ). m + g n) (sum_taken f xs d n (omega arith)) ∙ sym (sum_next g n))
+
+pub sum_by_place : {A : Type 0} (f : A → ℕ) (xs : List A) (d : A) → sum_by f xs ≡ sum (λ j. f (get_or xs j d)) (length xs)
+sum_by_place f xs d = ap (sum_by f) (sym (take_all (length xs) xs (omega arith))) ∙ sum_taken f xs d (length xs) (omega arith)
 
 pub sum_mono : (f : ℕ → ℕ) (m n : ℕ) → m ≤ n → sum f m ≤ sum f n
 unfolding sum

@@ -9,7 +9,6 @@ use native.Mathlib.Omega.{arith}
 use native.Mathlib.Decide.{ℕ_discrete}
 use lib.Dec.{ltb, ltb→lt}
 use lib.ListN.{length}
-use Rattle.facts.specs.Facts.{has}
 use Rattle.facts.specs.Least.{least, any}
 use Rattle.facts.proofs.Bools.{at_most}
 use Rattle.facts.proofs.Sets.{same_word}

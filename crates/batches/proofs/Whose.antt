@@ -8,7 +8,6 @@ use Prim.Native.Nat.{ℕ, zero, suc, ◌+◌, ◌-◌, ◌<◌}
 use native.Mathlib.Omega.{arith}
 use lib.Dec.{T, eqb, ltb, eqb→eq}
 use lib.ListN.{length}
-use Rattle.facts.specs.Facts.{has}
 use Rattle.facts.proofs.Bools.{and_r, or_cases}
 use Rattle.tables.specs.declared.Action.{Action}
 use Rattle.batches.specs.declared.Stage.{Stage}

@@ -2,10 +2,10 @@
 
 #![tactic(auto)]
 
-ghost use Rattle.std.specs.Prelude.{◌≡◌, ◌+◌, ◌-◌, ◌≤◌, ◌<◌, min, length};
-ghost use Rattle.facts.specs.Least.{least};
+ghost use Rattle.std.specs.Prelude.{◌≡◌, ◌+◌, ◌≤◌, ◌<◌, length};
+ghost use Rattle.facts.specs.Tests.{some_least};
 ghost use Rattle.tables.specs.Tables.{job_at};
-ghost use Rattle.batches.specs.Batches.{group_stages, stage_at, jobs_for, jobs_up_to, job_count, StageJob, ClearingJob, unknown, Expands};
+ghost use Rattle.batches.specs.Batches.{group_stages, jobs_for, jobs_up_to, job_count, StageJob, ClearingJob, unknown, Expands};
 ghost use Rattle.batches.specs.Steps.{AllKnown, OneStage, SomeStages, Appended, Drafted, batched, HandedOut};
 
 use jobfile::Read;
@@ -18,55 +18,55 @@ pub struct Stage {
     pub bay: bool,
 }
 
-// Added to the duration of a stage that holds the bay.
-const BAY: u16 = 1000;
-
-// The house groups, a row of stages each; 0 behind the last stage.
-const GROUPS: [[u16; 6]; 12] = [
-    [4, 0, 0, 0, 0, 0],
-    [4, BAY + 3, 0, 0, 0, 0],
-    [6, BAY + 3, 8, 0, 0, 0],
-    [4, 12, 0, 0, 0, 0],
-    [8, BAY + 3, 16, 0, 0, 0],
-    [4, BAY + 3, 8, 24, 0, 0],
-    [12, 0, 0, 0, 0, 0],
-    [6, BAY + 2, 12, BAY + 3, 0, 0],
-    [4, 8, 16, 32, 0, 0],
-    [8, BAY + 3, 24, BAY + 3, 48, 0],
-    [4, BAY + 2, 8, BAY + 2, 16, 32],
-    [96, 0, 0, 0, 0, 0],
-];
-
-// Stage i of a group.
-fn stage_of(group: usize, i: usize) -> Stage
-    requires { (group < 12) × (i < 6) }
-    ensures { result ≡ stage_at (group_stages group) i }
-{
-    let cell = GROUPS[group][i];
-    if cell < BAY {
-        return Stage {
-            duration: cell,
+// A stage of so many quarter hours that does not hold the bay.
+macro_rules! bench {
+    ($d:literal) => {
+        Stage {
+            duration: $d,
             bay: false,
-        };
-    }
-    Stage {
-        duration: cell - BAY,
-        bay: true,
-    }
+        }
+    };
 }
 
-// How many stages a group has.
-fn stage_count(group: usize) -> usize
-    requires { group < 12 }
-    ensures { result ≡ length (group_stages group) }
-{
-    for i in 0..6 {
-        let s = stage_of(group, i);
-        if s.duration == 0 {
-            return i;
+// A stage of so many quarter hours that holds it.
+macro_rules! bay {
+    ($d:literal) => {
+        Stage {
+            duration: $d,
+            bay: true,
         }
-    }
-    6
+    };
+}
+
+// The stages of each house group.
+const GROUPS: [&[Stage]; 12] = [
+    &[bench!(4)],
+    &[bench!(4), bay!(3)],
+    &[bench!(6), bay!(3), bench!(8)],
+    &[bench!(4), bench!(12)],
+    &[bench!(8), bay!(3), bench!(16)],
+    &[bench!(4), bay!(3), bench!(8), bench!(24)],
+    &[bench!(12)],
+    &[bench!(6), bay!(2), bench!(12), bay!(3)],
+    &[bench!(4), bench!(8), bench!(16), bench!(32)],
+    &[bench!(8), bay!(3), bench!(24), bay!(3), bench!(48)],
+    &[
+        bench!(4),
+        bay!(2),
+        bench!(8),
+        bay!(2),
+        bench!(16),
+        bench!(32),
+    ],
+    &[bench!(96)],
+];
+
+// The stages of a group.
+fn stages_of(group: usize) -> &'static [Stage]
+    requires { group < 12 }
+    ensures { result.now ≡ group_stages group }
+{
+    GROUPS[group]
 }
 
 // How many jobs a stage gives.
@@ -76,17 +76,12 @@ fn jobs_for(s: Stage) -> usize
     if s.bay { 2 } else { 1 }
 }
 
-// How many jobs a group gives.
-fn group_jobs(group: usize) -> usize
-    requires { group < 12 }
-    ensures { result ≡ jobs_up_to (group_stages group) (length (group_stages group)) }
+// How many jobs the stages of a group give.
+fn group_jobs(stages: &[Stage]) -> usize
+    requires { length stages.now ≤ 6 }
+    ensures { result ≡ jobs_up_to stages.now (length stages.now) }
 {
-    let n = stage_count(group);
-    let mut jobs = 0;
-    for i in 0..n {
-        jobs = jobs + jobs_for(stage_of(group, i));
-    }
-    jobs
+    stages.iter().map(|&s| jobs_for(s)).sum()
 }
 
 // How many jobs the batches give.
@@ -94,36 +89,18 @@ fn job_count(groups: &[u8]) -> usize
     requires { AllKnown groups.now × (length groups.now ≤ 4) }
     ensures { result ≡ job_count groups.now }
 {
-    let n = groups.len();
     let mut jobs = 0;
-    for b in 0..n {
-        jobs = jobs + group_jobs(groups[b] as usize);
+    for &group in groups {
+        jobs += group_jobs(stages_of(usize::from(group)));
     }
     jobs
 }
 
-// The lowest batch that names no house group, or how many batches there are.
-fn first_unknown(groups: &[u8]) -> usize
-    ensures { result ≡ least (unknown groups.now) (length groups.now) }
+// The lowest batch that names no house group.
+fn first_unknown(groups: &[u8]) -> Option<usize>
+    ensures { result ≡ some_least (unknown groups.now) (length groups.now) }
 {
-    let n = groups.len();
-    for b in 0..n {
-        if 12 <= groups[b] {
-            return b;
-        }
-    }
-    n
-}
-
-// The done fact of the stage before stage i, that of the first for the first.
-fn done_before(first: usize, i: usize) -> usize
-    requires { first + i < 64 }
-    ensures { result ≡ first + (i - 1) }
-{
-    if i == 0 {
-        return first;
-    }
-    first + (i - 1)
+    facts::first(groups.len(), |b| 12 <= groups[b])
 }
 
 // The job of stage i of a batch whose done facts stand from `first` on.
@@ -133,7 +110,7 @@ fn stage_job(s: Stage, first: usize, i: usize) -> Action
 {
     let bay = facts::with_if(0, 0, s.bay);
     Action {
-        conditions: facts::with_if(bay, done_before(first, i), 0 < i),
+        conditions: facts::with_if(bay, first + i.saturating_sub(1), 0 < i),
         additions: facts::with(0, first + i),
         deletions: bay,
         duration: s.duration,
@@ -170,15 +147,13 @@ fn with_stage(l: Loaded, n: usize, s: Stage, first: usize, i: usize) -> Loaded
 }
 
 // The table with the stages of a group from job `at` on.
-fn with_stages(l: Loaded, group: usize, at: usize, first: usize) -> Loaded
-    requires { (group < 12) × (at + jobs_up_to (group_stages group) (length (group_stages group)) ≤ 24) × (first + 6 ≤ 64) }
-    ensures { SomeStages l (group_stages group) (length (group_stages group)) at first result }
+fn with_stages(l: Loaded, stages: &[Stage], at: usize, first: usize) -> Loaded
+    requires { (length stages.now ≤ 6) × (at + jobs_up_to stages.now (length stages.now) ≤ 24) × (first + 6 ≤ 64) }
+    ensures { SomeStages l stages.now (length stages.now) at first result }
 {
-    let count = stage_count(group);
     let mut t = l;
     let mut n = at;
-    for i in 0..count {
-        let s = stage_of(group, i);
+    for (i, &s) in stages.iter().enumerate() {
         t = with_stage(t, n, s, first, i);
         n = n + jobs_for(s);
     }
@@ -199,9 +174,10 @@ fn with_batch(d: Draft, group: usize) -> Draft
     requires { (group < 12) × (d.jobs + jobs_up_to (group_stages group) (length (group_stages group)) ≤ 24) × (d.facts + 6 ≤ 64) }
     ensures { Appended d (group_stages group) result }
 {
-    let table = with_stages(d.table, group, d.jobs, d.facts);
-    let jobs = d.jobs + group_jobs(group);
-    let facts = d.facts + stage_count(group);
+    let stages = stages_of(group);
+    let table = with_stages(d.table, stages, d.jobs, d.facts);
+    let jobs = d.jobs + group_jobs(stages);
+    let facts = d.facts + stages.len();
     let goals = facts::with(d.goals, facts - 1);
     Draft {
         table,
@@ -216,7 +192,6 @@ fn with_batches(groups: &[u8], room: usize) -> Draft
     requires { AllKnown groups.now × (length groups.now ≤ 4) × (job_count groups.now ≤ 24) }
     ensures { Drafted groups.now (length groups.now) result }
 {
-    let n = groups.len();
     let table = tables::no_jobs(room);
     let mut d = Draft {
         table,
@@ -224,8 +199,8 @@ fn with_batches(groups: &[u8], room: usize) -> Draft
         facts: 1,
         goals: 0,
     };
-    for b in 0..n {
-        d = with_batch(d, groups[b] as usize);
+    for &group in groups {
+        d = with_batch(d, usize::from(group));
     }
     d
 }
@@ -242,24 +217,18 @@ pub struct BatchAnswer {
 }
 
 // The answer and the numbers of what was handed out.
-pub fn batched(r: Read) -> BatchAnswer
-    ensures { result ≡ batched r }
-{
-    let answer = r.answer;
-    BatchAnswer {
-        answer,
-        jobs: r.ask.jobs,
-        atoms: r.ask.atoms,
-        opening: r.ask.opening,
-        goals: r.ask.goals,
-    }
-}
+impl From<Read> for BatchAnswer {
+    ghost from_gives = { λ r said. said ≡ batched r };
 
-// A place among the batches: 65,535 also for every batch behind it.
-fn place_of(b: usize) -> u16
-    ensures { result ≡ min b 65535 }
-{
-    if b < 65535 { b as u16 } else { 65535 }
+    fn from(r: Read) -> BatchAnswer {
+        BatchAnswer {
+            answer: r.answer,
+            jobs: r.ask.jobs,
+            atoms: r.ask.atoms,
+            opening: r.ask.opening,
+            goals: r.ask.goals,
+        }
+    }
 }
 
 // The table of the batches, for a caller that lends so many records; it has no bound.
@@ -289,12 +258,11 @@ fn whole_table(groups: &[u8], room: usize) -> Read
 pub fn expand(groups: &[u8], room: usize) -> Read
     ensures { Expands groups.now room (job_at result.table) (batched result) }
 {
-    let n = groups.len();
-    let b = first_unknown(groups);
-    if b < n {
-        return jobfile::nothing(tables::refuse(28, place_of(b), 0));
+    if let Some(b) = first_unknown(groups) {
+        let place = b.min(65535) as u16;
+        return jobfile::nothing(tables::refuse(28, place, 0));
     }
-    if 4 < n {
+    if 4 < groups.len() {
         return jobfile::nothing(tables::refuse(29, 4, 0));
     }
     let jobs = job_count(groups);

@@ -18,7 +18,7 @@ fn plan<R: Input + Print>(rt: &R, space: &mut [u8], text: &mut [u8]) -> io::Resu
     print(rt, &space[..n], text)
 }
 
-// One byte more than a file may have is read, so that a longer file is seen and refused.
+// One byte more than a file may have is read, so that a longer file is seen and refused. The room of each program is its own.
 fn main(rt: HostRuntime) -> io::Result<()> {
     let mut space = [0u8; 65537];
     let mut text = [0u8; 8192];

@@ -1,18 +1,16 @@
 -- The bytes of a row and the jobs that feed another, from the row's words.
 -- Assumes nothing.
 use mathlib.Core.Path.{◌≡◌, refl, sym, ap, ap₂, ◌∙◌, subst, fun_ext}
-use mathlib.Core.Logic.{◌⊎◌, inl, inr}
 use mathlib.Core.Bool.{Bool, true, false, not, ◌&&◌, ◌||◌, and_assoc, and-false}
 use mathlib.Core.List.{List}
 use Prim.Native.Nat.{ℕ, ◌+◌, ◌≤◌, ◌<◌}
 use native.Mathlib.Omega.{arith}
 use borrow.Author.Tests.{eq-eqb, ne_eqb, lt-ltb, le-ltb}
-use lib.Dec.{T, eqb, leb, ltb, eqb→eq, eqb_refl, lt→ltb, ltb→lt}
+use lib.Dec.{T, eqb, leb, eqb→eq, eqb_refl}
 use lib.ListN.{get_or}
 use Rattle.facts.specs.Facts.{has}
-use Rattle.facts.specs.Words.{Word}
 use Rattle.facts.specs.Least.{least, any}
-use Rattle.facts.proofs.Bools.{and_l, and_r, and_of, or_cases, or_l, or_r, same, eqb_of, below_suc, passes}
+use Rattle.facts.proofs.Bools.{passes}
 use Rattle.facts.proofs.Least.{least_is, any_of, least_hit, any_none, least_same, any_same}
 use Rattle.rules.specs.Table.{Problem}
 use Rattle.rules.specs.Clashes.{interfere}
@@ -25,7 +23,7 @@ use Rattle.tables.specs.Tables.{job_at, problem}
 use Rattle.verdict.specs.Steps.{start_in}
 use Rattle.named.specs.declared.Row.{Row}
 use Rattle.named.specs.Named.{RowOf}
-use Rattle.named.proofs.Tests.{fit_yes, fit_no, no_fact, any_if}
+use Rattle.named.proofs.Tests.{fit_yes, fit_no, any_if}
 use Rattle.bindings.specs.Steps.{pick_byte, row_byte}
 
 -- ── the byte of a fact ──
@@ -53,34 +51,6 @@ byte_of_lem P s c want r p h = sym
     (byte_name (want p) (start_fits P s p c) (job_fits P s p c) P.count
     ∙ ap₂ (λ (b : Bool) (f : Bool × ℕ). pick_byte b f.0 f.1) (sym (h.start p))
     (ap₂ (λ (b : Bool) (a : ℕ). (b, a)) (sym (any_same _ _ P.count (λ a l. h.by a l p))) (sym (least_same _ _ P.count (λ a l. h.by a l p)))))
-
--- ── a set of jobs filled job by job ──
-
--- the jobs below n that pass the test
-abbrev pub Passing : (ℕ → Bool) → (n w : ℕ) → Type 0
-Passing g n w = Word (λ k. ltb k n && g k) w
-
-pub passing_none : (g : ℕ → Bool) → Passing g 0 0
-passing_none g k = no_fact k ∙ ap (λ (b : Bool). b && g k) (sym (le-ltb k 0 (omega arith)))
-
-pub passing_more : (g : ℕ → Bool) (n w v : ℕ) {y : Bool} → Passing g n w → y ≡ g n → Word (λ k. has w k || (y && eqb k n)) v → Passing g (n + 1) v
-passing_more g n w v {y} l e h k = h k ∙ ap₂ (λ (x z : Bool). x || (z && eqb k n)) (l k) e ∙ same _ _ (λ x. up (or_cases (ltb k n && g k) _ x)) down
-  where
-    up : T (ltb k n && g k) ⊎ T (g n && eqb k n) → T (ltb k (n + 1) && g k)
-    up (inl x) = and_of (ltb k (n + 1)) _ (lt→ltb k (n + 1) (omega (arith, ltb→lt k n (and_l (ltb k n) _ x)))) (and_r (ltb k n) _ x)
-    up (inr x) =
-        let at : k ≡ n = eqb→eq k n (and_r (g n) _ x) in
-        and_of (ltb k (n + 1)) _ (lt→ltb k (n + 1) (omega arith)) (rw at (and_l (g n) _ x))
-
-    down : T (ltb k (n + 1) && g k) → T ((ltb k n && g k) || (g n && eqb k n))
-    down x = go (below_suc k n (omega (arith, ltb→lt k (n + 1) (and_l (ltb k (n + 1)) _ x)))) (and_r (ltb k (n + 1)) _ x)
-      where
-        go : (k < n) ⊎ (k ≡ n) → T (g k) → T ((ltb k n && g k) || (g n && eqb k n))
-        go (inl m) z = or_l (ltb k n && g k) _ (and_of (ltb k n) _ (lt→ltb k n m) z)
-        go (inr m) z = or_r (ltb k n && g k) _ (and_of (g n) _ (rw m at z) (eqb_of m))
-
-pub passing_at : (g : ℕ → Bool) (n w k : ℕ) → Passing g n w → k < n → has w k ≡ g k
-passing_at g n w k h l = h k ∙ ap (λ (b : Bool). b && g k) (lt-ltb k n l)
 
 -- ── a row as the rules say it ──
 

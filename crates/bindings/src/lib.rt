@@ -2,18 +2,20 @@
 
 #![tactic(auto)]
 
-ghost use Rattle.std.specs.Prelude.{◌≡◌, ℕ, ◌+◌, ◌*◌, ◌≤◌, ◌<◌, length, get_or};
+ghost use Rattle.std.specs.Prelude.{◌≡◌, ◌&&◌, ℕ, ◌+◌, ◌*◌, ◌≤◌, ◌<◌, length, get_or};
 ghost use Rattle.facts.specs.Facts.{has};
-ghost use Rattle.facts.specs.Least.{least, any};
-ghost use Rattle.rules.specs.Plans.{starts};
+ghost use Rattle.facts.specs.Least.{any};
+ghost use Rattle.facts.specs.Tests.{some_least};
+ghost use Rattle.rules.specs.Plans.{starts, in_plan};
 ghost use Rattle.rules.specs.Supports.{support_byte};
-ghost use Rattle.rules.specs.Pairs.{binds, pair_if, pair_bytes};
+ghost use Rattle.rules.specs.Pairs.{feeds, binds, pair_if, pair_bytes};
 ghost use Rattle.tables.specs.Tables.{problem, filled};
 ghost use Rattle.verdict.specs.Steps.{Given};
 ghost use Rattle.bindings.specs.Bindings.{Supports, Pairs};
 ghost use Rattle.bindings.specs.Steps.{row_byte, FillsRow, FeedersOf, Binders, BindersOf, pair_row, Appends};
 
 use named::Row;
+use std::array;
 use tables::{Answer, Ask, Loaded};
 
 // For each job, a set of jobs that come before it.
@@ -22,17 +24,12 @@ pub struct Before {
     pub of: [u64; 24],
 }
 
-// The lowest job that gives fact p in the row, or n.
-fn first_giver(row: Row, n: usize, p: usize) -> usize
+// The lowest job that gives fact p in the row.
+fn first_giver(row: Row, n: usize, p: usize) -> Option<usize>
     requires { (n ≤ 24) × (p < 64) }
-    ensures { result ≡ least (λ a. has (get_or row.by a 0) p) n }
+    ensures { result ≡ some_least (λ a. has (get_or row.by a 0) p) n }
 {
-    for a in 0..n {
-        if facts::has(row.by[a], p) {
-            return a;
-        }
-    }
-    n
+    facts::first(n, |a| facts::has(row.by[a], p))
 }
 
 // The byte of fact p in the row.
@@ -43,11 +40,10 @@ fn support_byte(row: Row, n: usize, p: usize) -> u8
     if facts::has(row.start, p) {
         return 254;
     }
-    let a = first_giver(row, n, p);
-    if a < n {
-        return a as u8;
+    match first_giver(row, n, p) {
+        Some(a) => a as u8,
+        None => 255,
     }
-    255
 }
 
 // One row of 64 bytes is written from base on.
@@ -96,24 +92,28 @@ fn givers(row: Row, n: usize) -> u64
     requires { n ≤ 24 }
     ensures { (a : ℕ) → a < n → has result a ≡ any (has (get_or row.by a 0)) 64 }
 {
-    let mut w = 0u64;
-    for a in 0..n {
-        w = facts::with_if(w, a, some_fact(row.by[a]));
-    }
-    w
+    facts::those(n, |a| some_fact(row.by[a]))
 }
 
-// Of each job, the jobs that are named supports of its conditions.
+// The jobs that are named supports of the conditions of job b; behind the last job there are none.
+fn feeders(l: Loaded, q: Ask, s: &[u16], b: usize) -> u64
+    requires { Given q s.now }
+    ensures { (a : ℕ) → b < q.jobs → a < q.jobs → has result a ≡ (in_plan (starts s.now) b && feeds (problem l q) (starts s.now) a b) }
+{
+    if q.jobs <= b {
+        return 0;
+    }
+    givers(named::row_of(l, q, s, b), q.jobs)
+}
+
+// Of each job, these.
 pub fn all_feeders(l: Loaded, q: Ask, s: &[u16]) -> Before
     requires { Given q s.now }
     ensures { FeedersOf (problem l q) (starts s.now) result }
 {
-    let n = q.jobs;
-    let mut of = [0u64; 24];
-    for b in 0..n {
-        of[b] = givers(named::row_of(l, q, s, b), n);
+    Before {
+        of: array::from_fn(|b| feeders(l, q, s, b)),
     }
-    Before { of }
 }
 
 // Job a, then job b, is a binding pair.
@@ -125,23 +125,21 @@ fn binds(l: Loaded, q: Ask, s: &[u16], f: Before, a: usize, b: usize) -> bool
         return false;
     }
     let first = l.jobs[a];
-    if named::over_by(s[a], first.duration, tables::gap(q), s[b] as u32) {
+    if named::over_by(s[a], first.duration, tables::gap(q), u32::from(s[b])) {
         return interference::interferes(l, a, b) || facts::has(f.of[b], a);
     }
     false
 }
 
-// The jobs that bind job b.
+// The jobs that bind job b; behind the last job there are none.
 fn binders(l: Loaded, q: Ask, s: &[u16], f: Before, b: usize) -> u64
-    requires { Given q s.now × (b < q.jobs) × FeedersOf (problem l q) (starts s.now) f }
-    ensures { Binders (problem l q) (starts s.now) b result }
+    requires { Given q s.now × FeedersOf (problem l q) (starts s.now) f }
+    ensures { b < q.jobs → Binders (problem l q) (starts s.now) b result }
 {
-    let n = q.jobs;
-    let mut w = 0u64;
-    for a in 0..n {
-        w = facts::with_if(w, a, binds(l, q, s, f, a, b));
+    if q.jobs <= b {
+        return 0;
     }
-    w
+    facts::those(q.jobs, |a| binds(l, q, s, f, a, b))
 }
 
 // Of each job, the jobs that bind it, from those that feed it.
@@ -149,12 +147,9 @@ pub fn all_binders(l: Loaded, q: Ask, s: &[u16], f: Before) -> Before
     requires { Given q s.now × FeedersOf (problem l q) (starts s.now) f }
     ensures { BindersOf (problem l q) (starts s.now) result }
 {
-    let n = q.jobs;
-    let mut of = [0u64; 24];
-    for b in 0..n {
-        of[b] = binders(l, q, s, f, b);
+    Before {
+        of: array::from_fn(|b| binders(l, q, s, f, b)),
     }
-    Before { of }
 }
 
 // A pair is written behind what is there, where the test passes; the next place comes back.
@@ -175,9 +170,8 @@ fn put_row(l: Loaded, q: Ask, s: &[u16], f: Before, a: usize, at: usize, out: &m
     requires { Given q s.now × (a < q.jobs) × FeedersOf (problem l q) (starts s.now) f × (at + length (pair_row (problem l q) (starts s.now) a q.jobs) ≤ length out.old) }
     ensures { Appends (pair_row (problem l q) (starts s.now) a q.jobs) at out.old out.new result }
 {
-    let n = q.jobs;
     let mut next = at;
-    for b in 0..n {
+    for b in 0..q.jobs {
         next = put_if(out, next, binds(l, q, s, f, a, b), a, b);
     }
     next
@@ -188,10 +182,9 @@ pub fn put_pairs(l: Loaded, q: Ask, s: &[u16], out: &mut [u8]) -> usize
     requires { Given q s.now × (length (pair_bytes (problem l q) (starts s.now)) ≤ length out.old) }
     ensures { Appends (pair_bytes (problem l q) (starts s.now)) 0 out.old out.new result }
 {
-    let n = q.jobs;
     let f = all_feeders(l, q, s);
-    let mut next = 0usize;
-    for a in 0..n {
+    let mut next = 0;
+    for a in 0..q.jobs {
         next = put_row(l, q, s, f, a, next, out);
     }
     next

@@ -1,6 +1,6 @@
 -- What the contracts of the least bound cite: one bound, where a plan ends, ranges of bounds.
 -- Assumes nothing.
-use Rattle.std.specs.Prelude.{◌≡◌, ◌≢◌, Bool, true, false, List, ℕ, ◌+◌, ◌-◌, ◌≤◌, ◌<◌, T, length}
+use Rattle.std.specs.Prelude.{◌≡◌, ◌≢◌, Bool, true, false, List, ℕ, ◌+◌, ◌-◌, ◌≤◌, ◌<◌, T, length, Option, MatchOption}
 use Rattle.rules.specs.Table.{Problem}
 use Rattle.rules.specs.Plans.{Plan, in_plan, Valid}
 use Rattle.rules.specs.Order.{NoPlan}
@@ -77,10 +77,9 @@ pub record Bracketed (L : List ℕ) (low high : ℕ) (starts : List ℕ) : Type 
   pub some : SomeAt L high starts
   pub within : low ≤ high
 
--- the range r holds the least bound, or its high end is 65,535: there is no plan within top
-pub record Rises (L : List ℕ) (top : ℕ) (K starts : List ℕ) (r : Range) : Type 0 where
-  pub held : r.high ≢ 65535 → Bracketed L r.low r.high starts × (r.high ≤ top)
-  pub none : r.high ≡ 65535 → NoneBelow L (top + 1)
+-- the range that was found holds the least bound; or none was, and there is no plan within top
+pub record Rises (L : List ℕ) (top : ℕ) (K starts : List ℕ) (found : Option Range) : Type 0 where
+  pub held : MatchOption found (NoneBelow L (top + 1)) (λ r. Bracketed L r.low r.high starts × (r.high ≤ top))
   pub kept : SameLists L K
 
 -- the range r holds the least bound and is smaller
@@ -96,8 +95,7 @@ pub record Narrows (L : List ℕ) (high : ℕ) (K starts : List ℕ) (b : ℕ) :
   pub within : b ≤ high
   pub kept : SameLists L K
 
--- b is the least bound, at most top, and the starts are a plan within it; or it is 65,535: there is no plan within top
-pub record LeastWith (L : List ℕ) (top : ℕ) (K starts : List ℕ) (b : ℕ) : Type 0 where
-  pub held : b ≢ 65535 → Bracketed L b b starts × (b ≤ top)
-  pub none : b ≡ 65535 → NoneBelow L (top + 1)
+-- the bound that was found is the least, at most top, and the starts are a plan within it; or none was, and there is no plan within top
+pub record LeastWith (L : List ℕ) (top : ℕ) (K starts : List ℕ) (found : Option ℕ) : Type 0 where
+  pub held : MatchOption found (NoneBelow L (top + 1)) (λ b. Bracketed L b b starts × (b ≤ top))
   pub kept : SameLists L K

@@ -22,7 +22,7 @@ pub fn any_at(t: &mut Tables, bound: u16, out: &mut [u16; 24]) -> bool
     requires { Served t.old bound }
     ensures { AnyAt t.old bound out.old t.new out.new result }
 {
-    lent::put_bound(t, entries::wide(bound));
+    lent::put_bound(t, u32::from(bound));
     let mut s = outset::root(t);
     search::find_plan(&mut s, t, out)
 }
@@ -32,23 +32,20 @@ fn hopeless(t: &mut Tables, bound: u16) -> bool
     requires { Served t.old bound }
     ensures { Hopeless t.old bound t.new result }
 {
-    lent::put_bound(t, entries::wide(bound));
+    lent::put_bound(t, u32::from(bound));
     let mut s = outset::root(t);
     !search::pruned(&mut s, t)
 }
 
-// The later of an end and that of a job, if it is in.
+// The later of an end and that of a job, if it is in: 65,535 is the mark of lent tables of starts.
 fn later(start: u16, dur: u32, end: u64) -> u64
     ensures { Later start dur end result }
 {
     if start == 65535 {
-        return end;
+        end
+    } else {
+        cells::sum(u32::from(start), dur).max(end)
     }
-    let e = cells::sum(entries::wide(start), dur);
-    if e < end {
-        return end;
-    }
-    e
 }
 
 // Where the last job ends.
@@ -97,15 +94,11 @@ fn next(at: u16, low: u16, top: u16) -> u16
     requires { (low ≤ at) × (at < top) }
     ensures { (at < result) × (result ≤ top) }
 {
-    let far = at - low + 1;
-    if top - at < far {
-        return top;
-    }
-    at + far
+    at + (at - low + 1).min(top - at)
 }
 
-// A range that holds the least bound, with a plan within its high end; 65,535 is the high end where there is no plan within top.
-fn rise(t: &mut Tables, low: u16, top: u16, out: &mut [u16; 24]) -> Range
+// A range that holds the least bound, with a plan within its high end; none where there is no plan within top.
+fn rise(t: &mut Tables, low: u16, top: u16, out: &mut [u16; 24]) -> Option<Range>
     requires { Served t.old top × (low ≤ top) × NoneBelow t.old low }
     ensures { Rises t.old top t.new out.new result }
 {
@@ -113,16 +106,13 @@ fn rise(t: &mut Tables, low: u16, top: u16, out: &mut [u16; 24]) -> Range
     let mut at = low;
     loop {
         if any_at(t, at, out) {
-            return Range {
+            return Some(Range {
                 low: from,
                 high: last_end(t, out) as u16,
-            };
+            });
         }
         if at == top {
-            return Range {
-                low: from,
-                high: 65535,
-            };
+            return None;
         }
         from = at + 1;
         at = next(at, low, top);
@@ -160,15 +150,14 @@ fn narrow(t: &mut Tables, from: u16, top: u16, out: &mut [u16; 24]) -> u16
     low
 }
 
-// The least bound up to top, with a plan within it; 65,535 where there is none.
-pub fn least(t: &mut Tables, top: u16, out: &mut [u16; 24]) -> u16
+// The least bound up to top, with a plan within it; none where there is none.
+pub fn least(t: &mut Tables, top: u16, out: &mut [u16; 24]) -> Option<u16>
     requires { Served t.old top }
     ensures { LeastWith t.old top t.new out.new result }
 {
     let low = low_end(t, top);
-    let r = rise(t, low, top, out);
-    if r.high == 65535 {
-        return 65535;
+    match rise(t, low, top, out) {
+        Some(r) => Some(narrow(t, r.low, r.high, out)),
+        None => None,
     }
-    narrow(t, r.low, r.high, out)
 }

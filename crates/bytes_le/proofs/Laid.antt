@@ -1,11 +1,11 @@
 -- Bytes laid over a lent list, and the part of it that is lent on.
 -- Assumes nothing.
 use mathlib.Core.Path.{◌≡◌, refl, sym, ap, ap₂, ◌∙◌}
-use mathlib.Core.List.{List, [], ◌∷◌, ◌++◌, append_assoc}
+use mathlib.Core.List.{List, [], ◌∷◌, ◌++◌, append_assoc, append-nil}
 use Prim.Native.Nat.{ℕ, suc, ◌+◌, ◌-◌, ◌/◌, ◌%◌, ◌^◌, ◌≤◌, ◌<◌}
 use native.Mathlib.Numerals.{add-one}
 use native.Mathlib.Omega.{arith}
-use lib.ListN.{length, get_or, take, drop, set, length-append, length-take, length-drop, take-append-drop}
+use lib.ListN.{length, get_or, take, drop, set, length-append, length-take, length-drop, take-append-drop, drop_of_length-le}
 use lib.Seq.{drop-append-le, drop-cons, drop-drop, take_all, take_at, drop_at, set_at, append_snoc, take-append-add, drop-append-add, length-take-le, get_or-append-add, get_or-drop}
 use Rattle.bytes_le.specs.Little.{little, at_front, laid}
 use Rattle.bytes_le.proofs.Numbers.{length_little, little_more}
@@ -81,3 +81,8 @@ tail_back w at xs {ys} e l =
   where
     k : ℕ
     k = length xs - at
+
+-- the first places of a list are lent, and come back with w laid over all of them
+pub front_back : (w xs : List ℕ) {n : ℕ} {ys : List ℕ} → length w ≡ n → n ≤ length xs → ys ≡ at_front w (take n xs) → ys ++ drop n xs ≡ at_front w xs
+front_back w xs {n} e l h =
+    ap₂ (λ (t : List ℕ) (k : ℕ). t ++ drop k xs) (h ∙ ap (λ (t : List ℕ). w ++ t) (drop_of_length-le (take n xs) (omega (arith, length-take-le n xs l))) ∙ append-nil w) (sym e)

@@ -11,10 +11,9 @@ pub fn number(bytes: &[u8], at: usize, size: usize) -> u64
     requires { (at + size ≤ length bytes.now) × (size ≤ 8) }
     ensures { ReadsNumber size bytes.now at result }
 {
-    let end = at + size;
     let mut value = 0u64;
-    for i in 0..size {
-        value = value * 256 + (bytes[end - 1 - i] as u64);
+    for place in (at..at + size).rev() {
+        value = value * 256 + u64::from(bytes[place]);
     }
     value
 }
@@ -25,9 +24,9 @@ fn put_first(value: u64, size: usize, out: &mut [u8])
     ensures { out.new ≡ at_front (little size value) out.old }
 {
     let mut left = value;
-    for i in 0..size {
-        out[i] = (left % 256) as u8;
-        left = left / 256;
+    for byte in &mut out[..size] {
+        *byte = (left % 256) as u8;
+        left /= 256;
     }
 }
 

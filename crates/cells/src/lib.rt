@@ -12,7 +12,7 @@ pub type State = [u32; 100];
 pub fn sum(x: u32, y: u32) -> u64
     ensures { (result ≡ x + y) × (result < 2 ^ 33) }
 {
-    jobs::wide(x) + jobs::wide(y)
+    u64::from(x) + u64::from(y)
 }
 
 // The jobs inside, as a word.

@@ -27,10 +27,6 @@ use Rattle.crowds.proofs.Edges.{pile_last, pile_first, pile_behind}
 
 -- ── one group more ──
 
--- no group more
-pub heaps_same : {s L : List ℕ} {c : Crowd} {h : Heap} → Heaps s L c h h
-heaps_same = record { small = λ l. l; same = refl; piled = λ P t f p. p }
-
 pub heaps : (s L : List ℕ) (c : Crowd) (h : Heap) (j x : ℕ) {group till : ℕ} → j < 24 → group ≡ get_or c.words j 0 → x ≡ get_or c.long j 0 → Joins s L c.jobs group h → x ≤ 65535 → h.sum ≤ 4000000 → h.till ≤ till
     → ((a : ℕ) → T (has group a) → a < 24 → (view s).hi a + x ≤ till)
     → Heaps s L c h (record { from = h.from; members = bit_or h.members group; sum = h.sum + x; till = till })

@@ -1,18 +1,16 @@
 -- A row of waits: from the estimates behind a job to what they say of every valid plan.
 -- Assumes nothing.
-use mathlib.Core.Path.{◌≡◌, refl, sym, ap, subst, ◌∙◌}
+use mathlib.Core.Path.{◌≡◌, sym, ap, subst, ◌∙◌}
 use mathlib.Core.Logic.{◌⊎◌, inl, inr, ◌≢◌, ⊎_elim}
 use mathlib.Core.Bool.{cond}
 use mathlib.Core.List.{List}
-use Prim.Native.Nat.{ℕ, zero, suc, ◌+◌, ◌-◌, ◌≤◌, ◌<◌, ◌^◌, max}
+use Prim.Native.Nat.{ℕ, zero, suc, ◌-◌, ◌≤◌, ◌<◌, ◌^◌, max}
 use native.Mathlib.Omega.{arith}
 use native.Mathlib.Decide.{dec_lt}
 use lib.Dec.{T}
-use lib.ListN.{set, length, length-set, replicate, get_or-replicate, get_or-eq_default}
-use lib.Seq.{get_or-set_other}
+use lib.ListN.{length, get_or-eq_default}
 use Rattle.facts.specs.Facts.{has}
 use Rattle.facts.proofs.Bools.{T?}
-use Rattle.facts.proofs.Lists.{set_more}
 use Rattle.facts.proofs.Digits.{digit, digit_not}
 use Rattle.facts.proofs.Sets.{digit_has}
 use Rattle.rules.specs.Table.{Problem}
@@ -24,9 +22,8 @@ use Rattle.rules.proofs.Early.{plus_le, cost_free, cost_cap, condition_is}
 use Rattle.tables.specs.declared.Action.{Action}
 use Rattle.tables.specs.declared.Loaded.{Loaded}
 use Rattle.tables.specs.declared.Ask.{Ask}
-use Rattle.tables.specs.Tables.{no_job, record_at, job_at, problem, filled}
+use Rattle.tables.specs.Tables.{no_job, job_at, problem}
 use Rattle.tables.specs.Steps.{Released}
-use Rattle.tables.proofs.Lent.{filled_at, filled_rest}
 use Rattle.entries.specs.Entries.{entry}
 use Rattle.estimates.specs.Rounds.{greatest, CostOf}
 use Rattle.lent.specs.Lent.{Spacing}
@@ -53,23 +50,16 @@ greatest_le w costs m (suc k) h = go (T? (has w k)) (greatest_le w costs m k (λ
     go (inl g) r = omega (arith, cond_yes (has w k) (entry costs k) 0 g, h k (omega arith) g)
     go (inr n) r = omega (arith, cond_no (has w k) (entry costs k) 0 n)
 
--- ── the loop that fills a row ──
+-- ── a row ──
 
--- the row with the end, and the first n estimates
-pub record Behinds (dur gap : ℕ) (est : List ℕ) (end : ℕ) (row : List ℕ) (n : ℕ) : Type 0 where
-  pub size : length row ≡ 25
-  pub jobs : (b : ℕ) → b < n → entry row b ≤ dur + gap + entry est b
-  pub last : entry row 24 ≤ dur + end
+-- what stands at place b of the row: an estimate behind duration and gap, or the end behind the duration
+abbrev pub Behind : (dur gap : ℕ) → List ℕ → (end b x : ℕ) → Type 0
+Behind dur gap est end b x = (b < 24 → x ≡ plus (plus dur gap) (entry est b)) × (24 ≤ b → x ≡ plus dur end)
 
-pub behind_first : {dur gap : ℕ} (est : List ℕ) {end x : ℕ} → x ≡ plus dur end → Behinds dur gap est end (replicate 25 x) 0
-behind_first {dur} est {end} {x} e = record { size = refl; jobs = λ b l. absurd (omega arith); last = omega (arith, get_or-replicate 25 24 x 0 (omega arith), plus_le dur end) }
-
-pub behind_next : {dur gap : ℕ} {est : List ℕ} {end n x step : ℕ} {row : List ℕ} → n < 24 → Behinds dur gap est end row n → step ≡ plus dur gap → x ≡ plus step (entry est n)
-    → Behinds dur gap est end (set row n x) (n + 1)
-behind_next {dur} {gap} {est} {end} {n} {x} {step} {row} l f s e = record {
-  size = length-set row n x ∙ f.size;
-  jobs = set_more (λ k y. y ≤ dur + gap + entry est k) row n x 0 (omega (arith, f.size)) f.jobs (omega (arith, plus_le dur gap, plus_le step (entry est n)));
-  last = omega (arith, get_or-set_other row n 24 x 0 (λ q. omega arith), f.last);
+pub behind_all : {dur gap : ℕ} (est : List ℕ) {end : ℕ} (row : List ℕ) → ((b : ℕ) → b < 25 → Behind dur gap est end b (entry row b)) → RowWithin dur gap est end row
+behind_all {dur} {gap} est {end} row h = record {
+  jobs = λ b l. omega (arith, (h b (omega arith)).0 l, plus_le dur gap, plus_le (plus dur gap) (entry est b));
+  last = omega (arith, (h 24 (omega arith)).1 (omega arith), plus_le dur end);
 }
 
 -- ── the table without releases ──
@@ -98,18 +88,12 @@ pub free_released : (l k : Loaded) (q : Ask) → Frees l k → Released k q
 free_released l k q r i h = omega (arith, ap (λ (a : Action). a.release) (r i))
 
 -- where the first 24 jobs are free, all are: behind them there is none
-pub frees_all : (l k : Loaded) → length l.jobs ≡ 24 → k.jobs ≡ filled (λ i. unreleased (job_at l i)) 24 l.jobs → Frees l k
-frees_all l k len e i = ap (λ (ts : List Action). record_at ts i) e ∙ go (dec_lt i 24)
+pub frees_all : (l k : Loaded) → length l.jobs ≡ 24 → length k.jobs ≡ 24 → ((i : ℕ) → i < 24 → job_at k i ≡ unreleased (job_at l i)) → Frees l k
+frees_all l k e f h i = go (dec_lt i 24)
   where
-    f : ℕ → Action
-    f j = unreleased (job_at l j)
-
-    go : Dec (i < 24) → record_at (filled f 24 l.jobs) i ≡ unreleased (job_at l i)
-    go (yes h) = filled_at f 24 l.jobs i no_job h (omega (arith, len))
-    go (no h) = filled_rest f 24 l.jobs i no_job (omega arith) ∙ none ∙ ap unreleased (sym none)
-      where
-        none : job_at l i ≡ no_job
-        none = get_or-eq_default l.jobs no_job (omega (arith, len))
+    go : Dec (i < 24) → job_at k i ≡ unreleased (job_at l i)
+    go (yes m) = h i m
+    go (no m) = get_or-eq_default k.jobs no_job (omega (arith, f)) ∙ ap unreleased (sym (get_or-eq_default l.jobs no_job (omega (arith, e))))
 
 -- the row of job a, from the facts that it spares
 row_apart : (P : Problem) (a w : ℕ) (est : List ℕ) (end : ℕ) (row : List ℕ) → P.count ≤ 24 → SparedFacts P a w → Estimates (since P w) (entry est) → CostOf (since P w) (entry est) P.goals end

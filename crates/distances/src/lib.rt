@@ -11,6 +11,7 @@ ghost use Rattle.lent.specs.Lent.{Spacing};
 ghost use Rattle.distances.specs.Distances.{unreleased, Frees, Complement, RowWithin};
 ghost use Rattle.tables.specs.declared.Loaded.{Loaded};
 
+use std::array;
 use tables::{Action, Ask, Loaded};
 
 // The facts that the word lacks.
@@ -25,35 +26,31 @@ fn behind(dur: u16, gap: u16, est: [u16; 24], end: u16) -> [u16; 25]
     ensures { RowWithin dur gap est end result }
 {
     let step = estimates::plus(dur, gap);
-    let mut row = [estimates::plus(dur, end); 25];
-    for b in 0..24 {
-        row[b] = estimates::plus(step, est[b]);
-    }
-    row
+    let last = estimates::plus(dur, end);
+    array::from_fn(|b| {
+        if b < 24 {
+            estimates::plus(step, est[b])
+        } else {
+            last
+        }
+    })
 }
 
 // The job without its release.
 fn free(a: Action) -> Action
     ensures { result ≡ unreleased a }
 {
-    Action {
-        conditions: a.conditions,
-        additions: a.additions,
-        deletions: a.deletions,
-        duration: a.duration,
-        release: 0,
-    }
+    Action { release: 0, ..a }
 }
 
 // The table without releases.
 pub fn freed(l: Loaded) -> Loaded
     ensures { Frees l result }
 {
-    let mut t = l;
-    for i in 0..24 {
-        t = tables::with_job(t, i, free(l.jobs[i]));
+    Loaded {
+        jobs: array::from_fn(|i| free(l.jobs[i])),
+        ..l
     }
-    t
 }
 
 // How long after the start of job a each other job starts at the earliest, if a is over before it; for 24, how long the plan lasts.
@@ -65,13 +62,8 @@ pub fn row(k: Loaded, q: Ask, a: usize) -> [u16; 25]
     let job = k.jobs[a];
     let spared = lacks(job.deletions);
     let since = Ask {
-        jobs: q.jobs,
-        atoms: q.atoms,
         opening: spared,
-        goals: q.goals,
-        bound: q.bound,
-        set: q.set,
-        pairs: q.pairs,
+        ..q
     };
     let est = estimates::estimate_all(k, since);
     let end = estimates::dearest(k, since, est, q.goals);

@@ -25,9 +25,6 @@ use Rattle.distinct.specs.declared.Band.{Band}
 
 -- ── behind which jobs c wants another support ──
 
-pub pin_none : {L : List ℕ} {w q kills : ℕ} → WithPin L w q kills w
-pin_none = record { of = λ all b k h. inl h }
-
 pub pin_more : {L : List ℕ} (w : ℕ) {q kills : ℕ} → q < 64 → Covers kills (adders_of L q) → WithPin L w q kills (bit_or w (killers_of L q))
 pin_more {L} w {q} l c = record { of = λ all b k h. ⊎_elim inl (λ x. inr (record { q = q; short = l; wanted = k; lost = x; back = c })) (bits_cases w (killers_of L q) b h) }
 

@@ -6,17 +6,14 @@ use mathlib.Core.Bool.{Bool, true, false, cond, not, ◌&&◌, ◌||◌}
 use mathlib.Core.List.{List}
 use Prim.Native.Nat.{ℕ, ◌≤◌, ◌<◌, ◌^◌, min, max}
 use native.Mathlib.Omega.{arith}
-use lib.Dec.{T, T_not, eqb, eqb→eq, ltb, ltb→lt, lt→ltb}
-use lib.ListN.{length, set}
-use lib.Seq.{get_or-set_same, get_or-set_other}
+use lib.Dec.{T, T_not, eqb, eqb→eq, ltb, ltb→lt}
 use Rattle.facts.specs.Facts.{has}
 use Rattle.facts.specs.Least.{least, any}
-use Rattle.facts.specs.Words.{Word, Covers}
+use Rattle.facts.specs.Words.{Covers}
 use Rattle.facts.specs.Walks.{Walk}
 use Rattle.facts.proofs.Bools.{T?, and_l, and_r, and_of, or_cases, or_l, certain, at_most, eqb_of}
 use Rattle.facts.proofs.Bools as bools
 use Rattle.facts.proofs.Sets.{has_lt}
-use Rattle.facts.proofs.Lists.{get_d_past}
 use Rattle.facts.proofs.Least.{any_of, any_at}
 use Rattle.facts.proofs.Walks.{Over, over_all, over_next, over_here, Done, done_none, done_next, done_map, done_all}
 use Rattle.rules.proofs.Sums.{cond_yes, cond_no}
@@ -43,46 +40,6 @@ module _ (conditions opening release : ℕ) where
 -- nothing is lowered, nothing got cheaper
 word_same : (a : Bool) (x : ℕ) → a ≡ (a || ltb x x)
 word_same a x = bools.same a (a || ltb x x) (λ t. or_l a (ltb x x) t) (λ t. ⊎_elim (λ h. h) (λ h. absurd (omega (arith, ltb→lt x x h))) (or_cases a (ltb x x) t))
-
-module _ (old : List ℕ) (p c w : ℕ) where
-  -- it costs less already
-  pub lowers_none : entry old p ≤ c → Lowers (λ f. eqb f p) c w old old w
-  lowers_none h = record {
-    costs = λ q m. ⊎_elim (λ y. let e : q ≡ p = eqb→eq q p y in sym (cond_yes (eqb q p) (min c (entry old q)) (entry old q) y ∙ rw e (omega arith))) (λ n. sym (cond_no (eqb q p) (min c (entry old q)) (entry old q) n)) (T? (eqb q p));
-    cheaper = λ q m. word_same (has w q) (entry old q);
-  }
-
-  -- it gets cheaper
-  pub lowers_one : (r : ℕ) → c < entry old p → Word (λ q. has w q || eqb q p) r → Lowers (λ f. eqb f p) c w old (set old p c) r
-  lowers_one r h d = record {
-    costs = λ q m. at q (T? (eqb q p));
-    cheaper = λ q m. d q ∙ ap (λ (b : Bool). has w q || b) (low q (T? (eqb q p)));
-  }
-    where
-      l : p < length old
-      l = ⊎_elim (ltb→lt p (length old)) (λ m. absurd (omega (arith, get_d_past old p 0 (at_most p (length old) m)))) (T? (ltb p (length old)))
-
-      at : (q : ℕ) → T (eqb q p) ⊎ (T (eqb q p) → ⊥) → entry (set old p c) q ≡ cond (eqb q p) (min c (entry old q)) (entry old q)
-      at q (inl y) = let e : q ≡ p = eqb→eq q p y in rw e (get_or-set_same old p c 0 l ∙ sym (cond_yes (eqb p p) (min c (entry old p)) (entry old p) (eqb_of {m = p} refl) ∙ omega arith))
-      at q (inr n) = get_or-set_other old p q c 0 (λ e. n (eqb_of e)) ∙ sym (cond_no (eqb q p) (min c (entry old q)) (entry old q) n)
-
-      low : (q : ℕ) → T (eqb q p) ⊎ (T (eqb q p) → ⊥) → eqb q p ≡ ltb (entry (set old p c) q) (entry old q)
-      low q (inl y) =
-          let e : q ≡ p = eqb→eq q p y in
-          let x : entry (set old p c) p ≡ c = get_or-set_same old p c 0 l in
-          bools.same (eqb q p) (ltb (entry (set old p c) q) (entry old q)) (λ t. rw e (rw x (lt→ltb c (entry old p) h))) (λ t. y)
-      low q (inr n) =
-          let x : entry (set old p c) q ≡ entry old q = get_or-set_other old p q c 0 (λ e. n (eqb_of e)) in
-          bools.same (eqb q p) (ltb (entry (set old p c) q) (entry old q)) (λ t. absurd (n t)) (λ t. absurd (omega (arith, ltb→lt (entry (set old p c) q) (entry old q) t, x)))
-
--- what is lowered where a test passes
-pub lowers_if : (b : Bool) {f : ℕ → Bool} {c w r : ℕ} {old new : List ℕ} → T b → Lowers f c w old new r → Lowers (λ p. b && f p) c w old new r
-lowers_if true t d = d
-lowers_if false t d = absurd t
-
-pub lowers_not : (b : Bool) (f : ℕ → Bool) (c w : ℕ) (old : List ℕ) → (T b → ⊥) → Lowers (λ p. b && f p) c w old old w
-lowers_not true f c w old n = absurd (n tt)
-lowers_not false f c w old n = record { costs = λ p m. refl; cheaper = λ p m. word_same (has w p) (entry old p) }
 
 -- ── all facts of a word ──
 

@@ -13,17 +13,14 @@ ghost use Rattle.entries.specs.Entries.{entry};
 ghost use Rattle.estimates.specs.Rounds.{greatest, lagging, Costs, CostOf, NextRound, Lowers, Cheaper, at_first, due, Rests, AfterRound};
 ghost use Rattle.estimates.specs.Earliest.{Earliest};
 
+use std::array;
 use tables::{Action, Answer, Ask, Loaded};
 
 // An estimate with a duration added; 65,535 stays.
 pub fn plus(e: u16, d: u16) -> u16
     ensures { result ≡ plus e d }
 {
-    let sum = entries::wide(e) + entries::wide(d);
-    if sum < 65535 {
-        return sum as u16;
-    }
-    65535
+    e.saturating_add(d)
 }
 
 // Fact p costs c at most from now on; the word, with p if it got cheaper.
@@ -43,10 +40,8 @@ fn lower(w: u64, c: u16, costs: &mut [u16; 64], cheaper: u64) -> u64
     ensures { Lowers (has w) c cheaper costs.old costs.new result }
 {
     let mut all = cheaper;
-    let mut v = w;
-    while v != 0 {
-        all = lower_one(facts::lowest(v) as usize, c, costs, all);
-        v = facts::rest(v);
+    for p in facts::each(w) {
+        all = lower_one(p, c, costs, all);
     }
     all
 }
@@ -66,7 +61,7 @@ fn lower_by(a: Action, lag: u16, est: u16, next: u16, costs: &mut [u16; 64], che
     cheaper
 }
 
-// The costs where all jobs have come to their next estimates; the facts that got cheaper.
+// The costs where all jobs have come to their next estimates; the facts that got cheaper. A loop, since the costs are lowered in place.
 fn lower_all(
     l: Loaded,
     q: Ask,
@@ -91,10 +86,8 @@ fn greatest(w: u64, costs: &[u16; 64]) -> u16
     ensures { result ≡ greatest w costs.now 64 }
 {
     let mut most: u16 = 0;
-    let mut v = w;
-    while v != 0 {
-        most = entries::higher(costs[facts::lowest(v) as usize], most);
-        v = facts::rest(v);
+    for p in facts::each(w) {
+        most = costs[p].max(most);
     }
     most
 }
@@ -127,21 +120,15 @@ pub fn dearest(l: Loaded, q: Ask, est: [u16; 24], w: u64) -> u16
     greatest(w, &costs)
 }
 
-// A job's estimate: the greater of its release and the greatest cost of its conditions.
-fn estimate(release: u16, ready: u16) -> u16
-    ensures { result ≡ max release ready }
-{
-    entries::higher(release, ready)
-}
-
 // A job's first estimate: its release if its conditions are open, else 65,535.
 fn at_first(conditions: u64, opening: u64, release: u16) -> u16
     ensures { result ≡ at_first conditions opening release }
 {
     if facts::covers(opening, conditions) {
-        return release;
+        release
+    } else {
+        65535
     }
-    65535
 }
 
 // The first round: each job's estimate where no job is reached.
@@ -149,26 +136,27 @@ fn first(l: Loaded, q: Ask) -> [u16; 24]
     requires { (q.jobs ≤ 24) × Released l q }
     ensures { NextRound (problem l q) (λ _. 65535) result q.jobs }
 {
-    let n = q.jobs;
-    let mut est = [65535u16; 24];
-    for i in 0..n {
+    array::from_fn(|i| {
         let a = l.jobs[i];
-        est[i] = at_first(a.conditions, q.opening, a.release);
-    }
-    est
+        if i < q.jobs {
+            at_first(a.conditions, q.opening, a.release)
+        } else {
+            65535
+        }
+    })
 }
 
-// A job's next estimate: by the costs where one of its conditions got cheaper, else the one it has.
+// A job's next estimate: the greater of its release and what its conditions cost where one of them got cheaper, else the one it has.
 fn look(a: Action, est: u16, costs: &[u16; 64], cheaper: u64) -> u16
     ensures { result ≡ cond (due a.conditions cheaper) (max a.release (greatest a.conditions costs.now 64)) est }
 {
-    if facts::meets(a.conditions, cheaper) {
-        return estimate(a.release, greatest(a.conditions, costs));
+    if !facts::meets(a.conditions, cheaper) {
+        return est;
     }
-    est
+    a.release.max(greatest(a.conditions, costs))
 }
 
-// One round more, from the facts that got cheaper in the round before to those that got cheaper in this one.
+// One round more, from the facts that got cheaper in the round before to those that got cheaper in this one. A loop, since it works in place.
 fn round(l: Loaded, q: Ask, cheaper: u64, est: &mut [u16; 24], costs: &mut [u16; 64]) -> u64
     requires { (q.jobs ≤ 24) × (length est.old ≡ 24) × Costs (lagging (problem l q) (entry est.old) (problem l q).gap) costs.old 64 × Rests (problem l q) (entry est.old) cheaper }
     ensures { AfterRound (problem l q) est.old costs.old est.new costs.new result }
@@ -191,13 +179,7 @@ fn needed(l: Loaded, q: Ask) -> u64
     requires { q.jobs ≤ 24 }
     ensures { Word (λ p. any (λ i. has ((problem l q).conditions i) p) q.jobs) result }
 {
-    let n = q.jobs;
-    let mut all: u64 = 0;
-    for i in 0..n {
-        let a = l.jobs[i];
-        all = all | a.conditions;
-    }
-    all
+    (0..q.jobs).fold(0, |all, i| all | l.jobs[i].conditions)
 }
 
 // The estimates of all jobs.

@@ -10,12 +10,14 @@ use lib.Bits.{bit_and, and_step, and_self, and_le_l, and_le_r}
 use lib.Count.{count_trailing_zeros}
 use lib.Dec.{T}
 use Rattle.facts.specs.Facts.{has}
-use Rattle.facts.proofs.Bools.{and_l}
+use Rattle.facts.proofs.Bools.{and_l, same}
 use Rattle.facts.proofs.Digits.{digit, digit_suc, tz_odd, tz_even, parity}
 use Rattle.facts.proofs.Sets.{has_and, has_digit, digit_has, has_zero, has_lt, some_fact, lowest_fact}
 use Rattle.facts.specs.Least.{least}
-use Rattle.facts.specs.Walks.{Walk}
-use Rattle.facts.proofs.Least.{lowest}
+use Rattle.facts.specs.Walks.{Walk, Comes}
+use Rattle.facts.specs.Tests.{some_least}
+use Rattle.std.specs.Prelude.{Option, Some, None}
+use Rattle.facts.proofs.Least.{lowest, first_is}
 
 -- the half of w & (w - 1)
 half_odd : (w : ℕ) → w % 2 ≡ 1 → bit_and w (w - 1) / 2 ≡ w / 2
@@ -89,3 +91,10 @@ over_here {k} {w = w} {i} o n e = o.from i (rw e (lowest_in k w o.short n))
 
 pub over_lt : {k all w i : ℕ} → Over k all w → (w ≡ 0 → ⊥) → i ≡ least (has w) k → i < k
 over_lt {k} {w = w} {i} o n e = has_lt k w i o.short (rw e (lowest_in k w o.short n))
+
+-- a step of a walk over a word comes to its first fact
+pub first_in : (w : ℕ) (r : Option ℕ) (v : ℕ) → w < 2 ^ 64 → Comes w r v → r ≡ some_least (has w) 64
+first_in w None v l e = first_is (has w) 64 None (λ k h. same _ _ (λ x. absurd (has_zero k (rw e at x))) (λ x. absurd x))
+first_in w (Some p) v l e =
+    let at : T (has w p) = rw e.1 (lowest_in 64 w l (omega (arith, e.0))) in
+    first_is (has w) 64 (Some p) (has_lt 64 w p l at, same _ _ (λ _. tt) (λ _. at), λ k h. same _ _ (λ x. absurd ((lowest (has w) 64).first k (omega (arith, e.1, h)) x)) (λ x. absurd x))

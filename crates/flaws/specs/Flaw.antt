@@ -9,31 +9,18 @@ use Rattle.cells.specs.View.{view}
 use Rattle.lent.specs.Lent.{Cols, hits_of}
 use Rattle.lent.specs.Consumers.{SomeSafe, SafeFor, Ordered}
 use Rattle.supports.specs.Supports.{Candidate, Unsettled, NoMay}
+use Rattle.flaws.specs.declared.Repair.{Repair}
+use Rattle.flaws.specs.declared.Repair.TheVariants.{Job, Pair}
 use Rattle.flaws.specs.declared.Choice.{Choice}
+use Rattle.flaws.specs.declared.Choice.TheVariants.{Fine, Lost, Open}
 use Rattle.flaws.specs.declared.Scene.{Scene}
 
 -- ── choices ──
 
--- nothing is left to choose
-abbrev pub fine_choice : Choice
-fine_choice = record { kind = 0; x = 0; y = 0; rank = 0 }
-
--- no plan is left
-abbrev pub dead_choice : Choice
-dead_choice = record { kind = 1; x = 0; y = 0; rank = 0 }
-
--- job x is to be taken in or left out
-abbrev pub job_choice : ℕ → Choice
-job_choice x = record { kind = 2; x = x; y = 0; rank = 0 }
-
--- whether x is over before y is to be settled
-abbrev pub pair_choice : ℕ → ℕ → Choice
-pair_choice x y = record { kind = 3; x = x; y = y; rank = 0 }
-
 -- which pair is to be ordered where d deletes the fact of the candidate a for b: b and d where d surely is not over before a, else d and a
-abbrev pub threat_pair : (never : Bool) → (a b d : ℕ) → Choice
-threat_pair true a b d = pair_choice b d
-threat_pair false a b d = pair_choice d a
+abbrev pub threat_pair : (never : Bool) → (a b d : ℕ) → Repair
+threat_pair true a b d = Pair b d
+threat_pair false a b d = Pair d a
 
 -- job x is neither in nor out; it is open whether x is over before y
 pub record FreeJob (s : List ℕ) (x : ℕ) : Type 0 where
@@ -46,31 +33,32 @@ pub record FreePair (s : List ℕ) (x y : ℕ) : Type 0 where
   pub second : y < 24
   pub free : OpenPair (view s) x y
 
--- 0: X is so. 1: N is so. 2: the job x is free. 3: the pair x, y is free.
+-- the job, or the pair, of the repair is free
+abbrev pub Free : List ℕ → Repair → Type 0
+Free s (Job x) = FreeJob s x
+Free s (Pair x y) = FreePair s x y
+
+-- no flaw: X is so. One that no repair mends: N is so. One with a repair: that is free.
 pub record Picks (s : List ℕ) (X N : Type 0) (c : Choice) : Type 0 where
-  pub small : c.kind < 4
-  pub fine : c.kind ≡ 0 → X
-  pub dead : c.kind ≡ 1 → N
-  pub job : c.kind ≡ 2 → FreeJob s c.x
-  pub pair : c.kind ≡ 3 → FreePair s c.x c.y
+  pub fine : c ≡ Fine → X
+  pub lost : c ≡ Lost → N
+  pub repair : (r : Repair) → c ≡ Open r → Free s r
 
--- the same choice, whatever its rank
-pub record Alike (c r : Choice) : Type 0 where
-  pub kind : r.kind ≡ c.kind
-  pub x : r.x ≡ c.x
-  pub y : r.y ≡ c.y
+-- the pair the other way round is free, if the answer says so
+abbrev pub Roomier : List ℕ → (x y : ℕ) → Bool → Type 0
+Roomier s x y r = r ≡ true → FreePair s y x
 
--- the same choice, or of a pair another that is free
-abbrev pub Eased : (s : List ℕ) (c r : Choice) → Type 0
-Eased s c r = (r ≡ c) ⊎ ((c.kind ≡ 3) × (r.kind ≡ 3) × FreePair s r.x r.y)
+-- the same choice, or of a pair the other way round where that is free
+abbrev pub Eased : List ℕ → (c r : Choice) → Type 0
+Eased s c r = (r ≡ c) ⊎ ((x y : ℕ) × (c ≡ Open (Pair x y)) × (r ≡ Open (Pair y x)) × FreePair s y x)
 
 -- of two candidates one is taken; the first only where it is one
 abbrev pub Sooner : (best c r : Choice) → Type 0
-Sooner best c r = (r ≡ c) ⊎ ((r ≡ best) × (best.kind ≢ 1))
+Sooner best c r = (r ≡ c) ⊎ ((r ≡ best) × (best ≢ Lost))
 
 -- of two flaws one is taken, and none only where both are none
 abbrev pub Urgent : (best c r : Choice) → Type 0
-Urgent best c r = ((r ≡ c) × (c.kind ≢ 0)) ⊎ ((r ≡ best) × (best.kind ≡ 0 → c.kind ≡ 0))
+Urgent best c r = ((r ≡ c) × (c ≢ Fine)) ⊎ ((r ≡ best) × (best ≡ Fine → c ≡ Fine))
 
 -- ── one fact p of a consumer b ──
 

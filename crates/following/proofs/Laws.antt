@@ -1,16 +1,14 @@
 -- From the words of the steps to the promise of following.
 -- Assumes nothing.
 use mathlib.Core.Path.{◌≡◌, refl, sym, ◌∙◌, ap, subst}
-use mathlib.Core.Bool.{Bool, false, not, ◌&&◌, ◌||◌}
+use mathlib.Core.Bool.{Bool, false, not, ◌&&◌}
 use mathlib.Core.List.{List}
 use mathlib.Core.Logic.{⊎_elim}
-use Prim.Native.Nat.{ℕ, ◌+◌, ◌<◌}
-use native.Mathlib.Omega.{arith}
+use Prim.Native.Nat.{ℕ, ◌<◌}
 use lib.Dec.{T, eqb, ltb, ltb→lt, lt→ltb, eqb→eq}
 use Rattle.facts.specs.Facts.{has}
 use Rattle.facts.specs.Words.{Word, Covers, Decides}
-use Rattle.facts.proofs.Bools.{T?, chosen, unchosen, passes, and_l, and_r, and_of, or_cases, or_l, or_r, or_at, eqb_of, says_test, decides_true, decides_test}
-use Rattle.facts.proofs.Sets.{has_zero}
+use Rattle.facts.proofs.Bools.{T?, chosen, unchosen, and_l, and_r, and_of, eqb_of, decides_test, same}
 use Rattle.refusals.specs.Refusals.{Verdict, accepted, refused}
 use Rattle.rules.specs.Table.{Problem}
 use Rattle.rules.specs.Plans.{Plan, starts, in_plan, holds}
@@ -37,48 +35,29 @@ use Rattle.following.specs.Steps.{Screened}
 
 -- ── the steps ──
 
--- no job is below 0
-pub none_so : (X : ℕ → Type 0) (k : ℕ) → Decides (has 0 k) ((k < 0) × X k)
-none_so X k = record { yea = λ e. absurd (has_zero k (subst T (sym e) tt)); nay = λ e x. omega (arith, x.0) }
-
--- one job more is looked at: the word has the jobs below j that are so
-pub next_so : (X : ℕ → Type 0) (j w v : ℕ) {y : Bool} → ((k : ℕ) → Decides (has w k) ((k < j) × X k)) → Decides y (X j) → Word (λ k. has w k || (y && eqb k j)) v
-    → (k : ℕ) → Decides (has v k) ((k < j + 1) × X k)
-next_so X j w v {y} f d h k = says_test (h k) there back
-  where
-    at : k ≡ j → X j → X k
-    at e x = subst X (sym e) x
-
-    there : T (has w k || (y && eqb k j)) → (k < j + 1) × X k
-    there t = ⊎_elim (λ a. let b = (f k).yea (sym (passes (has w k) a)) in (omega (arith, b.0), b.1))
-        (λ a. let e : k ≡ j = eqb→eq k j (and_r y _ a) in (omega arith, at e (d.yea (sym (passes y (and_l y _ a)))))) (or_cases (has w k) _ t)
-
-    back : (k < j + 1) × X k → T (has w k || (y && eqb k j))
-    back (l, x) = ⊎_elim (λ m. or_l (has w k) _ (subst T (sym (decides_true (f k) (m, x))) tt))
-        (λ e. or_r (has w k) _ (and_of y _ (subst T (sym (decides_true d (subst X e x))) tt) (eqb_of e))) (or_at k j (omega arith))
-
 -- a job of the plan all of whose binders have finished is free, and no other
-pub freed_is : (P : Problem) (s : Plan) (en w : ℕ) (before : ℕ → ℕ) → ((j : ℕ) → j < P.count → Binders P s j (before j))
-    → ((j : ℕ) → Decides (has w j) ((j < P.count) × (T (start_in (s j)) × Covers en (before j)))) → Word (freed P s en) w
+pub freed_is : (P : Problem) (s : Plan) (en : ℕ) (before : ℕ → ℕ) → ((j : ℕ) → j < P.count → Binders P s j (before j))
+    → (j : ℕ) → j < P.count → (y : Bool) → Decides y (T (start_in (s j)) × Covers en (before j)) → y ≡ freed P s en j
 unfolding in_plan
-freed_is P s en w before b d j = decides_test (freed P s en j) (d j) there back
+freed_is P s en before b j l y d = decides_test (freed P s en j) d there back
   where
-    there : (j < P.count) × (T (start_in (s j)) × Covers en (before j)) → T (freed P s en j)
-    there (l, (i, c)) = freed_of P s en j (record { below = l; chosen = i })
+    there : T (start_in (s j)) × Covers en (before j) → T (freed P s en j)
+    there (i, c) = freed_of P s en j (record { below = l; chosen = i })
         (λ a m x. c a (subst T (sym (b j l a)) (and_of (ltb a P.count) _ (lt→ltb a P.count m.below) x)))
 
-    back : T (freed P s en j) → (j < P.count) × (T (start_in (s j)) × Covers en (before j))
+    back : T (freed P s en j) → T (start_in (s j)) × Covers en (before j)
     back x = let f = freed_at P s en j x in (
-      f.0.below,
-      (
-        f.0.chosen,
-        λ a t. (
-            let h = subst T (b j f.0.below a) t in
-            let y : T (binds P s a j) = and_r (ltb a P.count) _ h in
-            f.1 a (binds_at P s a j (ltb→lt a P.count (and_l (ltb a P.count) _ h)) f.0.below y).first y
-            ),
-      ),
+      f.0.chosen,
+      λ a t. (
+          let h = subst T (b j f.0.below a) t in
+          let y : T (binds P s a j) = and_r (ltb a P.count) _ h in
+          f.1 a (binds_at P s a j (ltb→lt a P.count (and_l (ltb a P.count) _ h)) f.0.below y).first y
+          ),
     )
+
+-- a free job is one of the table
+pub freed_below : (P : Problem) (s : Plan) (en w : ℕ) → Word (λ j. ltb j P.count && freed P s en j) w → Word (freed P s en) w
+freed_below P s en w f j = f j ∙ same _ _ (and_r (ltb j P.count) _) (λ x. and_of (ltb j P.count) _ (lt→ltb j P.count (freed_at P s en j x).0.below) x)
 
 -- the event by its number
 pub come_start : (free st en k j : ℕ) {r : Bool} → k ≡ 0 → r ≡ (has free j && not (has st j)) → r ≡ can_come free st en k j

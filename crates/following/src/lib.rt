@@ -2,7 +2,7 @@
 
 #![tactic(auto)]
 
-ghost use Rattle.std.specs.Prelude.{◌≡◌, not, cond, ◌&&◌, ℕ, ◌≤◌, ◌<◌, T, length};
+ghost use Rattle.std.specs.Prelude.{◌≡◌, not, ◌&&◌, ℕ, ◌≤◌, ◌<◌, T, length};
 ghost use Rattle.facts.specs.Facts.{has};
 ghost use Rattle.facts.specs.Words.{Word, Covers, Decides};
 ghost use Rattle.rules.specs.Plans.{starts, holds};
@@ -14,6 +14,7 @@ ghost use Rattle.following.specs.Screens.{dark, Following};
 ghost use Rattle.following.specs.Steps.{Screened};
 
 use bindings::Before;
+use std::array;
 use tables::{Answer, Ask, Loaded};
 
 // What the screen is handed: the numbers, the jobs that have started and those that have finished, and an event of a job, 0 its start and 1 its finish.
@@ -66,12 +67,7 @@ fn free_jobs(l: Loaded, q: Ask, s: &[u16], before: Before, finished: u64) -> u64
     requires { Given q s.now × BindersOf (problem l q) (starts s.now) before }
     ensures { Word (freed (problem l q) (starts s.now) finished) result }
 {
-    let n = q.jobs;
-    let mut w = 0u64;
-    for j in 0..n {
-        w = facts::with_if(w, j, is_free(s[j], before.of[j], finished));
-    }
-    w
+    facts::those(q.jobs, |j| is_free(s[j], before.of[j], finished))
 }
 
 // What has finished has started, and what has started was free to.
@@ -91,7 +87,8 @@ fn only_in(a: u64, b: u64, j: u8) -> bool
     if j >= 64 {
         return false;
     }
-    facts::has(a, j as usize) && !facts::has(b, j as usize)
+    let j = usize::from(j);
+    facts::has(a, j) && !facts::has(b, j)
 }
 
 // The event may come: the start of a free job that has not started, or the finish of one that has started and not finished.
@@ -107,11 +104,15 @@ fn may_come(w: Watch, free: u64) -> bool
     false
 }
 
-// The start where the job has finished, else out.
-fn start_if(start: u16, done: bool) -> u16
-    ensures { result ≡ cond done start 65535 }
+// The start of job j where it has finished, else out; behind the first n jobs all are out.
+fn finished_start(s: &[u16], n: usize, finished: u64, j: usize) -> u16
+    requires { (j < 24) × (n ≤ length s.now) }
+    ensures { j < n → result ≡ finished_of finished (starts s.now) j }
 {
-    if done { start } else { 65535 }
+    if n <= j {
+        return 65535;
+    }
+    if facts::has(finished, j) { s[j] } else { 65535 }
 }
 
 // The starts of the first n jobs, those that have not finished taken out.
@@ -119,11 +120,7 @@ fn finished_starts(s: &[u16], n: usize, finished: u64) -> [u16; 24]
     requires { (n ≤ 24) × (n ≤ length s.now) }
     ensures { (j : ℕ) → j < n → starts result j ≡ finished_of finished (starts s.now) j }
 {
-    let mut left = [65535u16; 24];
-    for j in 0..n {
-        left[j] = start_if(s[j], facts::has(finished, j));
-    }
-    left
+    array::from_fn(|j| finished_start(s, n, finished, j))
 }
 
 // The facts now: those of the finished jobs in the plan's order of finish.
@@ -131,9 +128,8 @@ fn facts_now(l: Loaded, q: Ask, s: &[u16], finished: u64) -> u64
     requires { Given q s.now }
     ensures { Word (λ p. holds (problem l q) (finished_of finished (starts s.now)) p q.bound) result }
 {
-    let mut space = finished_starts(s, q.jobs, finished);
-    let left: &mut [u16] = &mut space;
-    verdict::facts_at(l, q, left, q.bound)
+    let left = finished_starts(s, q.jobs, finished);
+    verdict::facts_at(l, q, &left, q.bound)
 }
 
 // The screen after an event that may come.
@@ -142,8 +138,9 @@ fn after_event(l: Loaded, w: Watch, s: &[u16], before: Before) -> Screen
     ensures { Screened (problem l w.ask) w.ask.bound (starts s.now) w result }
 {
     let q = w.ask;
-    let started = facts::with_if(w.started, w.job as usize, w.event == 0);
-    let finished = facts::with_if(w.finished, w.job as usize, w.event == 1);
+    let job = usize::from(w.job);
+    let started = facts::with_if(w.started, job, w.event == 0);
+    let finished = facts::with_if(w.finished, job, w.event == 1);
     let facts = facts_now(l, q, s, finished);
     let free = free_jobs(l, q, s, before, finished);
     Screen {
@@ -171,7 +168,7 @@ pub fn follow(l: Loaded, w: Watch, starts: &[u16]) -> Screen
         return dark(w, tables::refuse(19, 65535, 0));
     }
     if !may_come(w, free) {
-        return dark(w, tables::refuse(19, w.job as u16, 0));
+        return dark(w, tables::refuse(19, u16::from(w.job), 0));
     }
     after_event(l, w, starts, before)
 }

@@ -1,33 +1,33 @@
 -- Laws of words of which one job is in.
 -- Assumes nothing.
-use mathlib.Core.Path.{◌≡◌, sym, subst}
+use mathlib.Core.Path.{◌≡◌, subst}
+use mathlib.Core.Logic.{⊎_elim}
 use mathlib.Core.Bool.{Bool, false}
 use mathlib.Core.List.{List}
-use Prim.Native.Nat.{ℕ, ◌≤◌, ◌<◌, ◌^◌}
+use Prim.Native.Nat.{ℕ, ◌≤◌, ◌<◌}
 use native.Mathlib.Omega.{arith}
-use native.Mathlib.Decide.{ℕ_discrete}
-use lib.Bits.{bit_or}
-use lib.Dec.{T, eqb_refl}
-use lib.ListN.{length, get_or, set}
-use lib.Seq.{get_or-set_same, get_or-set_other}
+use lib.Dec.{T}
 use Rattle.facts.specs.Facts.{has}
 use Rattle.facts.specs.Words.{Decides}
-use Rattle.facts.proofs.Bools.{or_r}
-use Rattle.facts.proofs.Sets.{has_pow, has_or}
+use Rattle.facts.proofs.Sets.{has_zero, some_fact}
 use Rattle.rules.specs.Premises.{InOrder}
 use Rattle.rules.specs.Supports.{Support, start, nobody, by, Who}
 use Rattle.rules.proofs.Supported.{Supports}
 use Rattle.states.specs.State.{Search, HasJob, St, NeedsFact, there, consumer_in, StartMay, JobMay, May}
 use Rattle.states.proofs.Rules as rules
 use Rattle.cells.specs.View.{view}
+use Rattle.jobs.specs.Jobs.{Noted}
 use Rattle.lent.specs.Lent.{Cols, Kills, adders_of, killers_of, wants_of, Lent}
 use Rattle.lent.specs.Consumers.{who_at}
 use Rattle.lent.proofs.Consumers.{wants_of_lem}
 use Rattle.supports.specs.Supports.{Danger, Candidate, Sight}
-use Rattle.groups.specs.OneOf.{SomeOf, OneIn, AllOneIn}
+use Rattle.groups.specs.OneOf.{SomeOf, OneIn}
 
-pub chosen_alone : (P : Search) (s : List ℕ) (j : ℕ) {r : ℕ} → r ≡ bit_or 0 (2 ^ j) → T ((view s).inside j) → OneIn P s r
-chosen_alone P s j e i n Q l = (j, rw (e, has_or 0 (2 ^ j) j) (or_r (has 0 j) _ (subst T (sym (has_pow j j)) (eqb_refl j))), l.fits.stays.inside j i)
+-- a job alone, if it is inside
+pub chosen_alone : (P : Search) (s : List ℕ) (j : ℕ) {r : ℕ} → Noted (T ((view s).inside j)) j 0 r → OneIn P s r
+chosen_alone P s j {r} x n Q l =
+    let i = some_fact r n in
+    ⊎_elim (λ h. absurd (has_zero i.0 h)) (λ y. (j, subst (λ (k : ℕ). T (has r k)) y.0 i.1, l.fits.stays.inside j y.2)) (x.of i.0 i.1)
 
 -- all candidates of a fact that is wanted, where Start is none
 some_candidate : (P : Search) (s : St) → InOrder P.problem → (c : Who) (p w : ℕ) → T (there s c) → NeedsFact P c p → (StartMay P s p c → ⊥) → ((a : ℕ) → JobMay P s p c a → T (has w a)) → SomeOf P s w
@@ -49,11 +49,3 @@ chosen_candidates {L} {s} {b} {p} l {kills} {adders} {dang} {w} ek ea fd fc fm z
     let d = fd P p k in
     let c = fc P p (record { few = e.listed.few; gives = rw ea (e.listed.adders p l.1); dangers = d }) in
     some_candidate P (view s) e.listed.wf (who_at b) p w i (wants_of_lem e p b l.0 h) ((fm P s b e d).nay z) (λ a m. c.at a (omega (arith, m.below, e.listed.few)) m)
-
--- one word is put at a place
-pub chosen_set : (P : Search) (s : List ℕ) (words : List ℕ) (j w : ℕ) → j < length words → OneIn P s w → AllOneIn P s words 24 → AllOneIn P s (set words j w) 24
-chosen_set P s words j w l x all i m = go (ℕ_discrete i j)
-  where
-    go : Dec (i ≡ j) → OneIn P s (get_or (set words j w) i 0)
-    go (yes e) = rw (e, get_or-set_same words j w 0 l) x
-    go (no n) = rw (get_or-set_other words j i w 0 n) (all i m)

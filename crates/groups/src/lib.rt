@@ -12,6 +12,7 @@ ghost use Rattle.groups.specs.OneOf.{OneIn, AllOneIn, Grows};
 
 use cells::State;
 use lent::Tables;
+use std::array;
 
 // Words of jobs of each of which one job is in, each at the place of its first job; `used` are the jobs of all.
 #[derive(Clone, Copy)]
@@ -20,27 +21,12 @@ pub struct Groups {
     pub used: u32,
 }
 
-// Job j alone, if it is inside.
-fn alone_at(s: &State, j: usize) -> u32
-    requires { j < 24 }
-    ensures { (P : Search) → OneIn P s.now result }
-{
-    if !cells::inside(s, j) {
-        return 0;
-    }
-    jobs::with(0, j)
-}
-
 // The jobs inside, each alone.
 pub fn alone(s: &State) -> Groups
     ensures { (P : Search) → AllOneIn P s.now result.words 24 }
 {
-    let mut words = [0u32; 24];
-    for j in 0..24 {
-        words[j] = alone_at(s, j);
-    }
     Groups {
-        words,
+        words: array::from_fn(|j| jobs::with_if(0, j, cells::inside(s, j))),
         used: cells::insides(s),
     }
 }
@@ -77,10 +63,7 @@ fn condition(s: &State, t: &Tables, b: usize, p: usize) -> u32
     requires { b ≤ 24 }
     ensures { T (there (view s.now) (who_at b)) → (P : Search) → Lent t.now P → OneIn P s.now result }
 {
-    if 64 <= p {
-        return 0;
-    }
-    if !facts::has(lent::wants(t, b), p) {
+    if 64 <= p || !facts::has(lent::wants(t, b), p) {
         return 0;
     }
     several(s, t, b, p)
@@ -91,10 +74,7 @@ fn noted(g: Groups, w: u32) -> Groups
     ensures { (P : Search) (s : List ℕ) → OneIn P s w → AllOneIn P s g.words 24 → AllOneIn P s result.words 24 }
 {
     let j = jobs::lowest(w);
-    if 24 <= j {
-        return g;
-    }
-    if w & g.used != 0 {
+    if 24 <= j || w & g.used != 0 {
         return g;
     }
     let mut words = g.words;
@@ -114,10 +94,8 @@ fn consumer(s: &State, t: &Tables, b: usize, g: Groups) -> Groups
         return g;
     }
     let mut x = g;
-    let mut w = lent::wants(t, b);
-    while w != 0 {
-        x = noted(x, condition(s, t, b, lent::first(w)));
-        w = facts::rest(w);
+    for p in facts::each(lent::wants(t, b)) {
+        x = noted(x, condition(s, t, b, p));
     }
     x
 }

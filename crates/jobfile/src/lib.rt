@@ -7,7 +7,7 @@ ghost use Rattle.jobfile.specs.Calls.{nothing};
 
 use tables::{Answer, Ask, Loaded};
 
-// What the reader returns: the answer, the numbers asked with and the records; all 0 on refusal.
+// What the reader returns: the answer, the numbers asked with and the records; all 0 on refusal. One struct, since the reader's promise `reading` speaks of it.
 #[derive(Clone, Copy)]
 pub struct Read {
     pub answer: Answer,

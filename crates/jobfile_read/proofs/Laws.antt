@@ -1,29 +1,27 @@
 -- What the tests of the reader say of its checks, and where the records stand.
 -- Assumes nothing.
 use mathlib.Core.Path.{◌≡◌, sym, ap, ap₂, ◌∙◌, subst}
-use mathlib.Core.Bool.{Bool, cond}
+use mathlib.Core.Bool.{Bool, true, false, cond}
 use mathlib.Core.List.{List}
 use Prim.Native.Nat.{ℕ, ◌+◌, ◌-◌, ◌*◌, ◌<◌}
-use native.Mathlib.Numerals.{add-one}
+use native.Mathlib.Nat.{zero-add}
 use native.Mathlib.Omega.{arith}
 use borrow.Author.Tests.{eq-eqb, ne_eqb}
 use lib.Dec.{T}
-use lib.ListN.{take, drop}
+use lib.ListN.{length, take, drop}
+use Rattle.facts.specs.Least.{any}
+use Rattle.facts.proofs.Bools.{passes}
+use Rattle.facts.proofs.Least.{any_of, any_none}
 use Rattle.refusals.specs.Refusals.{Verdict, refused}
 use Rattle.refusals.proofs.Refused.{if_hit, if_pass}
 use Rattle.tables.specs.declared.Loaded.{Loaded}
 use Rattle.tables.specs.declared.Ask.{Ask}
 use Rattle.tables.specs.declared.Answer.{Answer}
 use Rattle.tables.specs.Tables.{answer_of}
-use Rattle.tables.specs.Steps.{with_job}
 use Rattle.tables.proofs.Laws.{said}
-use Rattle.tables.proofs.Lent.{one_tabled}
 use Rattle.jobfile.specs.declared.Read.{Read}
-use Rattle.jobfile.specs.Format.{action_in, first_of, trailer_at, trailer_in, ask_in, distance_in, too_far, records_in, table_in}
+use Rattle.jobfile.specs.Format.{trailer_at, trailer_in, ask_in, distance_in, too_far, records_in, table_in}
 use Rattle.jobfile.specs.Calls.{record_checks, save_checks, nothing, whole, handed, handed_from}
-
-pub first_more : (rs : List ℕ) (k room : ℕ) → with_job (first_of rs k room) k (action_in rs k) ≡ first_of rs (k + 1) room
-first_more rs k room = one_tabled (action_in rs) room k ∙ ap (λ (n : ℕ). first_of rs n room) (sym (add-one k))
 
 -- ── what is returned ──
 

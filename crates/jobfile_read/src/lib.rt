@@ -26,12 +26,7 @@ fn any_spoilt(records: &[u8], n: usize) -> bool
     requires { 32 * n ≤ length records.now }
     ensures { result ≡ any (spoilt records.now) n }
 {
-    for i in 0..n {
-        if spoilt(records, i) {
-            return true;
-        }
-    }
-    false
+    (0..n).any(|i| spoilt(records, i))
 }
 
 // Record i.
@@ -54,12 +49,11 @@ fn first_records(records: &[u8], n: usize, room: usize) -> Loaded
     requires { (n ≤ 24) × (32 * n ≤ length records.now) }
     ensures { result ≡ first_of records.now n room }
 {
-    let mut l = tables::no_jobs(room);
+    let mut jobs = tables::no_jobs(room).jobs;
     for i in 0..n {
-        let a = action_in(records, i);
-        l = tables::with_job(l, i, a);
+        jobs[i] = action_in(records, i);
     }
-    l
+    Loaded { jobs, lent: room }
 }
 
 // The numbers of the trailer.
@@ -91,7 +85,7 @@ fn too_far(distance: usize, jobs: usize, before: usize) -> bool
     requires { jobs < 256 }
     ensures { Tests (too_far distance jobs before) ((32 * jobs ≤ distance) × (distance ≤ before)) result }
 {
-    distance < 32 * jobs || before < distance
+    !(32 * jobs..=before).contains(&distance)
 }
 
 // The records of a save, with its numbers.

@@ -2,40 +2,19 @@
 
 #![tactic(auto)]
 
-ghost use Rattle.std.specs.Prelude.{◌≡◌, ◌+◌, ◌-◌, ◌≤◌, length, take, drop, replicate};
-ghost use Rattle.bytes_le.specs.Little.{at_front};
+ghost use Rattle.std.specs.Prelude.{◌≡◌, ◌≤◌, length};
 ghost use Rattle.jobfile.specs.Format.{trailer_at, trailer_in, distance_in, save_length};
 ghost use Rattle.jobfile.specs.Tidy.{pulled, Tidies};
 
 use tables::Answer;
-
-// n bytes from place from on, copied over the first places; forwards, so that each is read before it is written over.
-fn to_front(from: usize, n: usize, buf: &mut [u8])
-    requires { from + n ≤ length buf.old }
-    ensures { buf.new ≡ at_front (take n (drop from buf.old)) buf.old }
-{
-    for i in 0..n {
-        buf[i] = buf[from + i];
-    }
-}
-
-// Zeros over all of the bytes.
-fn clear(out: &mut [u8])
-    ensures { out.new ≡ replicate (length out.old) 0 }
-{
-    let all = out.len();
-    for i in 0..all {
-        out[i] = 0;
-    }
-}
 
 // The last n of the bytes in use to the front, and zeros behind them.
 fn pull(n: usize, used: usize, buf: &mut [u8])
     requires { (n ≤ used) × (used ≤ length buf.old) }
     ensures { buf.new ≡ pulled n used buf.old }
 {
-    to_front(used - n, n, buf);
-    clear(&mut buf[n..used]);
+    buf.copy_within(used - n..used, 0);
+    buf[n..used].fill(0);
 }
 
 // How long the last save of a file is, its notes included.

@@ -19,8 +19,8 @@ fn put_record(a: Action, out: &mut [u8])
     put(a.conditions, 8, 0, out);
     put(a.additions, 8, 8, out);
     put(a.deletions, 8, 16, out);
-    put(a.duration as u64, 2, 24, out);
-    put(a.release as u64, 2, 26, out);
+    put(u64::from(a.duration), 2, 24, out);
+    put(u64::from(a.release), 2, 26, out);
     put(0, 4, 28, out);
 }
 
@@ -43,9 +43,9 @@ fn put_trailer(q: Ask, out: &mut [u8])
     let jobs = q.jobs as u64;
     put(q.opening, 8, 0, out);
     put(q.goals, 8, 8, out);
-    put(q.bound as u64, 2, 16, out);
+    put(u64::from(q.bound), 2, 16, out);
     put(jobs, 1, 18, out);
-    put(q.atoms as u64, 1, 19, out);
+    put(u64::from(q.atoms), 1, 19, out);
     put(32 * jobs, 4, 20, out);
 }
 
@@ -53,13 +53,7 @@ fn put_trailer(q: Ask, out: &mut [u8])
 fn too_long(used: usize, jobs: usize) -> bool
     ensures { Tests (ltb 65536 (length_after used jobs)) (length_after used jobs ≤ 65536) result }
 {
-    if 65536 < used {
-        return true;
-    }
-    if 65536 < jobs {
-        return true;
-    }
-    65536 < used + 32 * jobs + 24
+    65536 < used || 65536 < jobs || 65536 < used + 32 * jobs + 24
 }
 
 // Appends a save behind the bytes used, and returns the new length.

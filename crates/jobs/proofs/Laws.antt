@@ -10,7 +10,7 @@ use Rattle.facts.specs.Facts.{has}
 use Rattle.facts.specs.Words.{Word}
 use Rattle.facts.proofs.Bools.{or_l, or_r, or_cases, certain, and_of, and_l, and_r}
 use Rattle.facts.proofs.Sets.{word_with, has_or, has_zero}
-use Rattle.jobs.specs.Jobs.{Noted, Lack, Single}
+use Rattle.jobs.specs.Jobs.{Noted, FirstLack, OnlyJob}
 use mathlib.Core.Bool.{not, ◌&&◌}
 use Rattle.facts.specs.Least.{least}
 use Rattle.facts.specs.Walks.{Walk}
@@ -42,14 +42,14 @@ module _ (w v more : ℕ) (k : Word (λ i. has w i && not (has v i)) more) where
   held : (m : ℕ) → (d : ℕ) → d < least (has more) m → T (has w d) → T (has v d)
   held m d l h = certain (has v d) (λ n. (lowest (has more) m).first d l (subst T (sym (k d)) (and_of (has w d) _ h n)))
 
-  pub lack_found : {r : ℕ} → r ≡ least (has more) 32 → r < 24 → Lack w v r
-  lack_found {r} e l = record { within = omega arith; here = λ h. and_l (has w r) _ hit; lacks = λ h. T_not (has v r) (and_r (has w r) _ hit); first = λ d h x. held 32 d (omega (arith, e)) x }
+  pub lack_found : {r : ℕ} → r ≡ least (has more) 32 → r < 24 → FirstLack w v r
+  lack_found {r} e l = record { below = l; here = and_l (has w r) _ hit; lacks = T_not (has v r) (and_r (has w r) _ hit); first = λ d h x. held 32 d (omega (arith, e)) x }
     where
       hit : T (has w r && not (has v r))
       hit = subst T (k r) (subst (λ (j : ℕ). T (has more j)) (sym e) ((lowest (has more) 32).hit (omega arith)))
 
-  pub lack_none : 24 ≤ least (has more) 32 → Lack w v 24
-  lack_none l = record { within = omega arith; here = λ h. absurd (omega arith); lacks = λ h. absurd (omega arith); first = λ d h x. held 32 d (omega arith) x }
+  pub lack_none : 24 ≤ least (has more) 32 → (d : ℕ) → d < 24 → T (has w d) → T (has v d)
+  lack_none l d h x = held 32 d (omega arith) x
 
-pub one_bit : {w r d : ℕ} → Walk 32 w r → r ≡ 0 → d ≡ least (has w) 32 → d < 24 → Single w d
-one_bit k z e l = record { within = omega arith; only = λ h i y. ⊎_elim (λ q. omega arith) (λ q. absurd (has_zero i (subst (λ (v : ℕ). T (has v i)) z q))) (k.rest i y) }
+pub one_bit : {w r d : ℕ} → Walk 32 w r → r ≡ 0 → d ≡ least (has w) 32 → d < 24 → OnlyJob w d
+one_bit k z e l = record { below = l; only = λ i y. ⊎_elim (λ q. omega arith) (λ q. absurd (has_zero i (subst (λ (v : ℕ). T (has v i)) z q))) (k.rest i y) }

@@ -35,11 +35,6 @@ AllKeepAway s L w words long n = (a : ℕ) → a < n → KeepsAway s L w (get_or
 
 -- ── where a group stands ──
 
--- job a starts at r or earlier, and m is no later
-pub record NotBelow (s : List ℕ) (a m r : ℕ) : Type 0 where
-  pub more : m ≤ r
-  pub high : a < 24 → (view s).hi a ≤ r
-
 -- every job of the group starts at x or earlier
 abbrev pub Latest : List ℕ → (group x : ℕ) → Type 0
 Latest s g x = (a : ℕ) → T (has g a) → a < 24 → (view s).hi a ≤ x

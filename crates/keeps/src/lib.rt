@@ -2,28 +2,22 @@
 
 #![tactic(auto)]
 
-ghost use Rattle.std.specs.Prelude.{◌<◌};
-ghost use Rattle.keeps.specs.Keeps.{KeepsFor, KeepsAllFor, KeepsAway, AllKeepAway, NotBelow, Latest};
+ghost use Rattle.std.specs.Prelude.{◌<◌, ⊤, MatchOption};
+ghost use Rattle.keeps.specs.Keeps.{KeepsFor, KeepsAllFor, KeepsAway, AllKeepAway, Latest};
 
 use cells::State;
 use lent::Tables;
+use std::array;
 
 // The smaller of m and how long job a keeps b away, if b can be behind it.
 fn nearer(s: &State, t: &Tables, a: usize, b: usize, m: u32) -> u32
     requires { a < 24 }
     ensures { KeepsFor s.now t.now a b m result }
 {
-    if 24 <= b {
+    if 24 <= b || cells::never(s, a, b) {
         return m;
     }
-    if cells::never(s, a, b) {
-        return m;
-    }
-    let x = lent::wait(t, a, b);
-    if x < m {
-        return x;
-    }
-    m
+    lent::wait(t, a, b).min(m)
 }
 
 // The smaller of m and how long job a keeps every job of the word away.
@@ -34,10 +28,8 @@ fn hold(s: &State, t: &Tables, a: usize, w: u32, m: u32) -> u32
         return m;
     }
     let mut x = m;
-    let mut v = w;
-    while v != 0 {
-        x = nearer(s, t, a, jobs::lowest(v), x);
-        v = jobs::rest(v);
+    for b in jobs::each(w) {
+        x = nearer(s, t, a, b, x);
     }
     x
 }
@@ -51,10 +43,8 @@ fn holds(s: &State, t: &Tables, w: u32, group: u32) -> u32
     }
     let others = jobs::outside(w, group);
     let mut x: u32 = 65535;
-    let mut v = group;
-    while v != 0 {
-        x = hold(s, t, jobs::lowest(v), others, x);
-        v = jobs::rest(v);
+    for a in jobs::each(group) {
+        x = hold(s, t, a, others, x);
     }
     x
 }
@@ -63,25 +53,7 @@ fn holds(s: &State, t: &Tables, w: u32, group: u32) -> u32
 pub fn lengths(s: &State, t: &Tables, w: u32, words: [u32; 24]) -> [u32; 24]
     ensures { AllKeepAway s.now t.now w words result 24 }
 {
-    let mut long = [0u32; 24];
-    for a in 0..24 {
-        long[a] = holds(s, t, w, words[a]);
-    }
-    long
-}
-
-// The later of m and the latest start of job a.
-fn further(s: &State, a: usize, m: u32) -> u32
-    ensures { NotBelow s.now a m result }
-{
-    if 24 <= a {
-        return m;
-    }
-    let x = cells::hi(s, a);
-    if m < x {
-        return x;
-    }
-    m
+    array::from_fn(|a| holds(s, t, w, words[a]))
 }
 
 // The latest start of the jobs of a group.
@@ -89,72 +61,50 @@ pub fn latest(s: &State, group: u32) -> u32
     ensures { Latest s.now group result }
 {
     let mut x: u32 = 0;
-    let mut v = group;
-    while v != 0 {
-        x = further(s, jobs::lowest(v), x);
-        v = jobs::rest(v);
+    for a in jobs::each(group) {
+        if a < 24 {
+            x = x.max(cells::hi(s, a));
+        }
     }
     x
 }
 
-// When a group is gone at the latest, if it has jobs, else after all.
+// After every end that two times of 32 bits add up to.
+const AFTER_ALL: u64 = 8589934592;
+
+// When a group is gone at the latest, if it has jobs, else after all: a time still, as `ends` gives plain times.
 fn gone_by(s: &State, group: u32, long: u32) -> u64 {
     if group == 0 {
-        return 8589934592;
+        AFTER_ALL
+    } else {
+        cells::sum(latest(s, group), long)
     }
-    cells::sum(latest(s, group), long)
 }
 
 // The same for every group.
 pub fn ends(s: &State, words: [u32; 24], long: [u32; 24]) -> [u64; 24] {
-    let mut gone = [0u64; 24];
-    for a in 0..24 {
-        gone[a] = gone_by(s, words[a], long[a]);
-    }
-    gone
-}
-
-// When the group of job j is gone, for 24 after all.
-fn end(gone: [u64; 24], j: usize) -> u64 {
-    if 24 <= j {
-        return 8589934592;
-    }
-    gone[j]
+    array::from_fn(|a| gone_by(s, words[a], long[a]))
 }
 
 // The group of the word that is gone first, at the latest; any answer is right.
-fn soonest(gone: [u64; 24], w: u32) -> usize {
-    let mut best: usize = 24;
-    let mut v = w;
-    while v != 0 {
-        let j = jobs::lowest(v);
-        if end(gone, j) < end(gone, best) {
-            best = j;
-        }
-        v = jobs::rest(v);
-    }
-    best
+fn soonest(gone: &[u64; 24], w: u32) -> Option<usize>
+    ensures { MatchOption result ⊤ (λ j. j < 24) }
+{
+    jobs::each(w)
+        .filter(|&j| j < 24 && gone[j] < AFTER_ALL)
+        .min_by_key(|&j| gone[j])
 }
 
-// The word without job j.
-fn without(w: u32, j: usize) -> u32 {
-    if 24 <= j {
-        return 0;
-    }
-    jobs::outside(w, jobs::with(0, j))
-}
-
-// The groups of the word by their latest ends. Any order is right; this one finds most.
+// The groups of the word by their latest ends, and 24 behind the last, since arrays are of fixed length. Any order is right; this one finds most.
 pub fn by_end(gone: [u64; 24], w: u32) -> [usize; 24] {
     let mut order = [24usize; 24];
-    let mut v = w;
+    let mut left = w;
     for k in 0..24 {
-        if v == 0 {
+        let Some(j) = soonest(&gone, left) else {
             return order;
-        }
-        let j = soonest(gone, v);
+        };
         order[k] = j;
-        v = without(v, j);
+        left = jobs::outside(left, jobs::with(0, j));
     }
     order
 }

@@ -2,7 +2,7 @@
 -- Assumes nothing.
 use mathlib.Core.Path.{◌≡◌, refl, sym, ap, ◌∙◌, subst}
 use mathlib.Core.Logic.{◌↔◌}
-use mathlib.Core.Bool.{Bool, true, false, cond, ◌&&◌}
+use mathlib.Core.Bool.{Bool, cond, ◌&&◌}
 use mathlib.Core.List.{List, []}
 use Prim.Native.Nat.{ℕ, ◌+◌, ◌*◌, ◌/◌, ◌≤◌, ◌<◌, max}
 use native.Mathlib.Omega.{arith}
@@ -28,11 +28,11 @@ use Rattle.tables.proofs.Lent.{length_filled}
 use Rattle.entries.specs.Entries.{entry}
 use Rattle.bindings.specs.Bindings.{InBytes, BindsIn}
 use Rattle.bindings.specs.Steps.{Appends}
-use Rattle.bindings.proofs.Bytes.{Passing, passing_at}
+use Rattle.facts.proofs.Passing.{Passing, passing_at}
 use Rattle.bindings.proofs.Count.{pairs_room}
 use Rattle.bindings.proofs.Listed.{listed}
 use Rattle.times.specs.Times.{pair_first, pair_second, wanted}
-use Rattle.times.specs.declared.Outcome.{Outcome}
+use Rattle.std.specs.Prelude.{Option, Some, None, IsSome}
 use Rattle.times.specs.Steps.{Ready, Solved}
 use Rattle.lateness.specs.Steps.{plain, even_table, asked_of, Keepable, Runnable, Listing}
 
@@ -44,13 +44,13 @@ along X {m} {m'} {x} {x'} d e h = subst (λ (y : Ask). X m y) (sym e) (subst (λ
 pub last_next : (test : ℕ → Bool) (f : ℕ → ℕ) (n t : ℕ) {b : Bool} {r : ℕ} → IsGreatest (Valued test f n) t → b ≡ test n → r ≡ cond b (max t (f n)) t → IsGreatest (Valued test f (n + 1)) r
 last_next test f n t {b} {r} g e d = subst (IsGreatest (Valued test f (n + 1))) (sym (d ∙ ap (λ (x : Bool). cond x (max t (f n)) t) e)) (greatest_next test f n t g)
 
--- where some starts keep what is asked, those worked out are settled
-pub solved_kept : (P : Problem) (q : Asked) (r : Outcome) → Solved P q r → Keepable P q → Settled P q (entry r.starts)
-solved_kept P q r f (y, k) = go r.ok refl
-  where
-    go : (b : Bool) → r.ok ≡ b → Settled P q (entry r.starts)
-    go true e = f.some e
-    go false e = absurd (f.none e y k)
+-- where some starts keep what is asked, some are worked out
+pub solved_kept : (P : Problem) (q : Asked) (r : Option (List ℕ)) → Solved P q r → Keepable P q → IsSome r
+solved_kept P q None f (y, k) = absurd (f y k)
+solved_kept P q (Some z) f k = refl
+
+pub solved_some : (P : Problem) (q : Asked) {r : Option (List ℕ)} {z : List ℕ} → Solved P q r → r ≡ Some z → Settled P q (entry z)
+solved_some P q f e = subst (Solved P q) e f
 
 -- a job of the table whose jobs all take so long
 even_at : (d j : ℕ) → j < 24 → job_at (even_table d) j ≡ plain d

@@ -25,7 +25,7 @@ use Rattle.tables.proofs.Laws.{accepts, numbered, changed_new}
 use Rattle.verdict.specs.Steps.{Sound}
 use Rattle.verdict.proofs.Accepted.{offered_checks, sound}
 use Rattle.bindings.specs.Bindings.{Pairs, pair_verdict}
-use Rattle.bindings.proofs.Bytes.{Passing}
+use Rattle.facts.proofs.Passing.{Passing}
 use Rattle.settle.specs.Settle.{Settling}
 use Rattle.settle.proofs.Starts.{are_settled}
 use Rattle.lateness.specs.declared.Overruns.{Overruns}

@@ -29,25 +29,18 @@ fn plan_jobs(s: &[u16], n: usize) -> u64
     requires { (n ≤ 24) × (n ≤ length s.now) }
     ensures { Word (λ j. ltb j n && in_plan (starts s.now) j) result }
 {
-    let mut w = 0u64;
-    for j in 0..n {
-        w = facts::with_if(w, j, s[j] != 65535);
-    }
-    w
+    facts::those(n, |j| s[j] != 65535)
 }
 
 // The later of a time and the finish of a job that counts.
 fn later(last: u32, counts: bool, start: u16, duration: u16) -> u32
     ensures { result ≡ cond counts (max last (start + duration)) last }
 {
-    if !counts {
-        return last;
+    if counts {
+        last.max(u32::from(start) + u32::from(duration))
+    } else {
+        last
     }
-    let end = entries::wide(start) + entries::wide(duration);
-    if last < end {
-        return end;
-    }
-    last
 }
 
 // The last finish of a job of the set, 0 if there is none.
@@ -55,9 +48,8 @@ fn last_finish(l: Loaded, q: Ask, z: [u16; 24]) -> u32
     requires { q.jobs ≤ 24 }
     ensures { LastOf (problem l q) (has q.set) (entry z) q.jobs result }
 {
-    let n = q.jobs;
     let mut last = 0u32;
-    for j in 0..n {
+    for j in 0..q.jobs {
         let a = l.jobs[j];
         last = later(last, facts::has(q.set, j), z[j], a.duration);
     }
@@ -69,9 +61,7 @@ fn settled_finish(l: Loaded, q: Ask, pairs: &[u8]) -> u32
     requires { Ready q pairs.now × Keepable (problem l q) (wanted l q pairs.now) }
     ensures { SettledFinish (problem l q) (wanted l q pairs.now) result }
 {
-    let r = times::least_starts(l, q, pairs);
-    let z = r.starts;
-    last_finish(l, q, z)
+    last_finish(l, q, times::least_starts(l, q, pairs).unwrap())
 }
 
 // A table whose jobs all take so long, are released at 0 and have no facts.
@@ -85,8 +75,10 @@ fn even_table(duration: u16) -> Loaded
         duration,
         release: 0,
     };
-    let jobs = [one; 24];
-    Loaded { jobs, lent: 24 }
+    Loaded {
+        jobs: [one; 24],
+        lent: 24,
+    }
 }
 
 // The numbers of a settling of this set by so many pairs; the atom count says the rule.
@@ -94,13 +86,10 @@ fn asked(q: Ask, atoms: u8, set: u64, pairs: usize) -> Ask
     ensures { result ≡ asked_of q atoms set pairs }
 {
     Ask {
-        jobs: q.jobs,
         atoms,
-        opening: q.opening,
-        goals: q.goals,
-        bound: q.bound,
         set,
         pairs,
+        ..q
     }
 }
 
@@ -111,7 +100,7 @@ fn finish_by(l: Loaded, q: Ask, set: u64, pairs: &[u8], n: usize, most: u16) -> 
 {
     let last = settled_finish(l, asked(q, q.atoms, set, n), pairs);
     let jobs = settled_finish(even_table(1), asked(q, 1, set, n), pairs);
-    last + entries::wide(most) * jobs
+    last + u32::from(most) * jobs
 }
 
 // The same of a plan: its binding pairs are listed, and its jobs are the set.

@@ -46,7 +46,7 @@ fn lead(s: &mut State, m: usize, n: usize)
     cells::put_never(s, n, m);
 }
 
-// The same of job m and the one that it leads, if it leads one.
+// The same of job m and the one that it leads, if it leads one: the lent table has 24 for none.
 fn lead_one(s: &mut State, m: usize, t: &Tables)
     requires { m < 24 }
     ensures { Prunes (Lent t.now) s.old s.new }

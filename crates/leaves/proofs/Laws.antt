@@ -2,40 +2,42 @@
 -- Assumes nothing.
 use mathlib.Core.Path.{◌≡◌, refl, sym, subst}
 use mathlib.Core.Logic.{⊎_elim}
-use mathlib.Core.Bool.{true, false, true≢false, false≢true}
+use mathlib.Core.Bool.{Bool, true, false, true≢false, false≢true}
 use mathlib.Core.List.{List}
 use Prim.Native.Nat.{ℕ, ◌+◌, ◌-◌, ◌≤◌, ◌<◌, ◌^◌}
 use native.Mathlib.Omega.{arith}
 use native.Mathlib.Decide.{dec_lt}
-use borrow.Author.Tests.{leb-true, leb-false}
 use lib.Bits.{bit_and}
-use lib.Dec.{T, leb}
+use lib.ListN.{length, get_or}
+use Rattle.std.specs.Bool.{MatchBool}
+use Rattle.std.specs.List.{AllWithin, HoldsAt, range_with_len}
+use Rattle.std.proofs.lemmas.List.FromFn.{length-range_with_len, get_or-range_with_len}
+use lib.Dec.{T}
 use Rattle.facts.specs.Facts.{has}
 use Rattle.facts.proofs.Bools.{and_of, below_suc}
 use Rattle.facts.proofs.Lists.{get_d_past}
 use Rattle.facts.proofs.Sets.{has_and}
-use Rattle.facts.proofs.Walks.{Done, done_all}
 use Rattle.rules.specs.Plans.{Plan}
 use Rattle.rules.specs.Supports.{Support, Who, task, goal}
 use Rattle.rules.proofs.Sums.{sum_more}
 use Rattle.states.specs.State.{Search, Left, Dead, More, Flawless, Timed, NeedsFact, there, Safe, Ahead}
 use Rattle.cells.specs.View.{sures, ins, los, word_at, view, Prunes, Puts, From}
-use Rattle.cells.proofs.Changes.{none, says, then, new_word}
+use Rattle.cells.proofs.Changes.{says, then, new_word}
 use Rattle.lent.specs.Lent.{step_of, est_of, Lent}
 use Rattle.lent.specs.Consumers.{NoFlaw}
 use Rattle.lent.proofs.Consumers.{who_job}
-use Rattle.leaves.specs.Leaf.{Violated, RowSteady, ViolatedRow, NoneEarly, BeginsAt, BegunBy, room, Raised, InPlace, AllInPlace, Verifies, StartsOf, plan_of, Resolves, LeafOk}
+use Rattle.std.specs.Prelude.{Option, Some, None, MatchOption}
+use Rattle.leaves.specs.Leaf.{Violated, ViolatedRow, NoneEarly, BeginsAt, BegunBy, room, Raised, InPlace, AllInPlace, Verifies, StartsOf, plan_of, Resolves, LeafOk}
 use Rattle.states.proofs.Rules as rules
 use Rattle.states.proofs.Leaf as leaf
 
 -- ── settling ──
 
-pub late_none : {s L : List ℕ} {b : ℕ} → RowSteady s L b → ViolatedRow s L b 24
-late_none h = record { here = λ l. absurd (omega arith); none = λ l. h }
-
 -- whoever is violated with b is in b's row and inside
-pub row_done : {s L : List ℕ} {b w : ℕ} → Done (λ a. Violated s L a b → ⊥) (bit_and (word_at s (sures b)) (word_at s ins)) w → w ≡ 0 → ViolatedRow s L b 24
-row_done {s} {L} {b} d e = late_none (λ a v. done_all d e a (subst T (sym (has_and (word_at s (sures b)) (word_at s ins) a)) (and_of (has (word_at s (sures b)) a) _ v.order v.inside)) v)
+pub row_found : (s L : List ℕ) (b w : ℕ) (r : Option ℕ) → w ≡ bit_and (word_at s (sures b)) (word_at s ins)
+    → MatchOption r ((a : ℕ) → T (has w a) → Violated s L a b → ⊥) (λ a. Violated s L a b) → ViolatedRow s L b r
+row_found s L b w None e h = λ a v. h a (rw e (subst T (sym (has_and (word_at s (sures b)) (word_at s ins) a)) (and_of (has (word_at s (sures b)) a) _ v.order v.inside))) v
+row_found s L b w (Some a) e h = h
 
 -- ── from the estimates on ──
 
@@ -45,9 +47,6 @@ begins_at {j = j} e d = record {
   prunes = says d (λ P wf t Q l i. omega (arith, t.listed.early P.bound Q l.first.ok j i));
   here = omega (arith, new_word d);
 }
-
-pub begins_already : {s L : List ℕ} {j : ℕ} → est_of L j ≤ (view s).lo j → BeginsAt L s s j
-begins_already h = record { prunes = none; here = h }
 
 -- lower bounds never fall
 begun_on : (s r L : List ℕ) (n : ℕ) → NoneEarly s L n → More (view s) (view r) → NoneEarly r L n
@@ -71,13 +70,6 @@ module _ {s L : List ℕ} {a b : ℕ} (v : Violated s L a b) where
   after : (P : Search) → Lent L P → (Q : Plan) → Left P (view s) Q → (view s).lo a + step_of L a ≤ Q b
   after P e Q l = omega (arith, rules.push P e.listed.wf (view s) a b _ (rules.own_wait P e.listed.wf (view s) a b) v.inside v.order Q l (l.fits.stays.inside b v.there), e.listed.steps a v.first)
 
-  pub raise_dead : (view s).hi b < (view s).lo a + step_of L a → Raised L s s false
-  raise_dead h = record {
-    prunes = none;
-    less = λ e. absurd (false≢true e);
-    dead = λ e P t Q l. omega (arith, after P t Q l, l.fits.stays.hi b (l.fits.stays.inside b v.there));
-  }
-
   pub raise_more : {r : List ℕ} {x : ℕ} → Puts (From b x) (los b) x s r → x ≡ (view s).lo a + step_of L a → x < 2 ^ 32 → Raised L s r true
   raise_more {r} {x} d z k = record {
     prunes = says d (λ P wf e Q l i. omega (arith, after P e Q l));
@@ -94,13 +86,12 @@ module _ {Ok : Search → Type 0} {s : List ℕ} {X : Type 0} where
   pub checks_dead : ((P : Search) → Ok P → Dead P (view s)) → Verifies Ok s false X
   checks_dead h = record { fine = λ e. absurd (false≢true e); dead = λ e. h }
 
-  pub checks_le : (x y : ℕ) → (x ≤ y → X) → (y < x → (P : Search) → Ok P → Dead P (view s)) → Verifies Ok s (leb x y) X
-  checks_le x y f g = record { fine = λ e. f (leb-true x y e); dead = λ e. g (leb-false x y e) }
-
--- a job that is inside and that no plan has
-pub out : (s : List ℕ) (P : Search) (j : ℕ) → T ((view s).inside j)
-    → ((Q : Plan) → j < P.problem.count → (view s).lo j ≤ Q j → Q j ≤ (view s).hi j → Q j + P.problem.duration j ≤ P.bound → ⊥) → Dead P (view s)
-out s P j i h Q l = let k = l.fits.stays.inside j i in h Q k.below (l.fits.stays.lo j k) (l.fits.stays.hi j k) (l.first.ok.inside j k)
+-- a check of each of the first n jobs
+pub verified : {Ok : Search → Type 0} {s : List ℕ} {r : Bool} {Yes : ℕ → Type 0} (n : ℕ)
+    → MatchBool r (AllWithin Yes (range_with_len 0 n) 0 (length (range_with_len 0 n))) ((k : ℕ) × (k < length (range_with_len 0 n)) × HoldsAt (λ _. (P : Search) → Ok P → Dead P (view s)) (range_with_len 0 n) k)
+    → Verifies Ok s r ((j : ℕ) → j < n → Yes j)
+verified {r = true} {Yes} n x = checks_fine (λ j l. let e : get_or (range_with_len 0 n) j 0 ≡ j = omega (arith, get_or-range_with_len 0 n j 0 l) in subst Yes e (x j 0 (omega arith) (omega (arith, length-range_with_len 0 n))))
+verified {r = false} n x = checks_dead (x.2 0)
 
 -- ── the leaf ──
 

@@ -1,6 +1,6 @@
 -- What the contracts of settling and of the leaf cite.
 -- Assumes nothing.
-use Rattle.std.specs.Prelude.{◌≡◌, Bool, true, false, List, ℕ, ◌+◌, ◌-◌, ◌≤◌, ◌<◌, ◌^◌, T, get_or, length}
+use Rattle.std.specs.Prelude.{◌≡◌, Bool, true, false, List, ℕ, ◌+◌, ◌-◌, ◌≤◌, ◌<◌, ◌^◌, T, get_or, length, Option, MatchOption}
 use Rattle.rules.specs.Plans.{Plan}
 use Rattle.rules.specs.Sums.{sum}
 use Rattle.states.specs.State.{Search, Dead, PlanIn}
@@ -22,19 +22,17 @@ pub record Violated (s L : List ℕ) (a b : ℕ) : Type 0 where
 abbrev pub RowSteady : (s L : List ℕ) (b : ℕ) → Type 0
 RowSteady s L b = (a : ℕ) → Violated s L a b → ⊥
 
--- a job that is violated with b, or 24 for none
-pub record ViolatedRow (s L : List ℕ) (b r : ℕ) : Type 0 where
-  pub here : r < 24 → Violated s L r b
-  pub none : 24 ≤ r → RowSteady s L b
+-- a job that is violated with b, or none
+abbrev pub ViolatedRow : (s L : List ℕ) (b : ℕ) → Option ℕ → Type 0
+ViolatedRow s L b found = MatchOption found (RowSteady s L b) (λ a. Violated s L a b)
 
 -- the lower bounds are starts over the sure pairs
 abbrev pub Steady : (s L : List ℕ) → Type 0
 Steady s L = (b : ℕ) → RowSteady s L b
 
 -- a violated pair, or none
-pub record Finds (s L : List ℕ) (c : Pair) : Type 0 where
-  pub here : c.first < 24 → Violated s L c.first c.second
-  pub none : 24 ≤ c.first → Steady s L
+abbrev pub Finds : (s L : List ℕ) → Option Pair → Type 0
+Finds s L found = MatchOption found (Steady s L) (λ c. Violated s L c.first c.second)
 
 -- no job of the first n may start before its estimate
 abbrev pub NoneEarly : (s L : List ℕ) (n : ℕ) → Type 0

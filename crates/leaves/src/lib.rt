@@ -2,7 +2,7 @@
 
 #![tactic(auto)]
 
-ghost use Rattle.std.specs.Prelude.{◌≡◌, ℕ, ◌<◌, T, length};
+ghost use Rattle.std.specs.Prelude.{ℕ, ◌<◌, T};
 ghost use Rattle.facts.specs.Facts.{has};
 ghost use Rattle.facts.specs.Words.{Decides};
 ghost use Rattle.cells.specs.View.{view};
@@ -11,8 +11,9 @@ ghost use Rattle.leaves.specs.Leaf.{Violated, ViolatedRow, Finds, BeginsAt, Begu
 
 use cells::State;
 use lent::Tables;
+use std::array;
 
-// Two jobs, the first 24 for none.
+// Two jobs, the first over before the second.
 #[derive(Clone, Copy)]
 pub struct Pair {
     pub first: usize,
@@ -24,59 +25,36 @@ fn violated_at(s: &State, a: usize, b: usize, t: &Tables) -> bool
     requires { b < 24 }
     ensures { Decides result (Violated s.now t.now a b) }
 {
-    if 24 <= a {
-        return false;
-    }
-    if !cells::inside(s, a) {
-        return false;
-    }
-    if !cells::inside(s, b) {
-        return false;
-    }
-    if !cells::sure(s, a, b) {
-        return false;
-    }
-    jobs::wide(cells::lo(s, b)) < cells::sum(cells::lo(s, a), lent::step(t, a))
+    a < 24
+        && cells::inside(s, a)
+        && cells::inside(s, b)
+        && cells::sure(s, a, b)
+        && u64::from(cells::lo(s, b)) < cells::sum(cells::lo(s, a), lent::step(t, a))
 }
 
-// Such a job a for b, or 24.
-fn violated_row(s: &State, b: usize, t: &Tables) -> usize
+// Such a job a for b, which may be a stray bit and no job.
+fn violated_row(s: &State, b: usize, t: &Tables) -> Option<usize>
     ensures { ViolatedRow s.now t.now b result }
 {
     if 24 <= b {
-        return 24;
+        return None;
     }
-    let mut w = cells::row_sure(s, b) & cells::insides(s);
-    while w != 0 {
-        let a = jobs::lowest(w);
-        if violated_at(s, a, b, t) {
-            return a;
-        }
-        w = jobs::rest(w);
-    }
-    24
+    jobs::each(cells::row_sure(s, b) & cells::insides(s)).find(|&a| violated_at(s, a, b, t))
 }
 
 // Such a pair of jobs.
-fn violated(s: &State, t: &Tables) -> Pair
+fn violated(s: &State, t: &Tables) -> Option<Pair>
     ensures { Finds s.now t.now result }
 {
-    let mut w = cells::insides(s);
-    while w != 0 {
-        let b = jobs::lowest(w);
-        let a = violated_row(s, b, t);
-        if a < 24 {
-            return Pair {
+    for b in jobs::each(cells::insides(s)) {
+        if let Some(a) = violated_row(s, b, t) {
+            return Some(Pair {
                 first: a,
                 second: b,
-            };
+            });
         }
-        w = jobs::rest(w);
     }
-    Pair {
-        first: 24,
-        second: 24,
-    }
+    None
 }
 
 // b starts when a is over, if it still may.
@@ -85,7 +63,7 @@ fn raise(s: &mut State, a: usize, b: usize, t: &Tables) -> bool
     ensures { Raised t.now s.old s.new result }
 {
     let x = cells::sum(cells::lo(s, a), lent::step(t, a));
-    if jobs::wide(cells::hi(s, b)) < x {
+    if u64::from(cells::hi(s, b)) < x {
         return false;
     }
     cells::put_lo(s, b, x as u32);
@@ -117,15 +95,12 @@ pub fn settle(s: &mut State, t: &Tables) -> bool
     ensures { SettledBy t.now s.old s.new result }
 {
     begin_all(s, t);
-    loop {
-        let c = violated(s, t);
-        if 24 <= c.first {
-            return true;
-        }
+    while let Some(c) = violated(s, t) {
         if !raise(s, c.first, c.second, t) {
             return false;
         }
     }
+    true
 }
 
 // Job j is out, or of the table and over by the bound within its window.
@@ -152,12 +127,7 @@ fn stands_at(s: &State, j: usize, t: &Tables) -> bool
 fn stand_all(s: &State, t: &Tables) -> bool
     ensures { Verifies (Lent t.now) s.now result (AllInPlace s.now t.now 24) }
 {
-    for j in 0..24 {
-        if !stands_at(s, j, t) {
-            return false;
-        }
-    }
-    true
+    (0..24).all(|j| stands_at(s, j, t))
 }
 
 // No bit from 24 on.
@@ -167,7 +137,7 @@ fn no_stray(w: u32) -> bool
     w < 16777216
 }
 
-// The start of job j: its lower bound, or 65,535.
+// The start of job j: its lower bound, or 65,535, which the starts have for a job that is out (`plan_of`).
 fn start_at(s: &State, j: usize) -> u16
     requires { j < 24 }
     ensures { StartIs ((view s.now).inside j) ((view s.now).lo j) result }
@@ -175,21 +145,14 @@ fn start_at(s: &State, j: usize) -> u16
     if !cells::inside(s, j) {
         return 65535;
     }
-    let x = cells::lo(s, j);
-    if 65535 < x {
-        return 65535;
-    }
-    x as u16
+    cells::lo(s, j).min(65535) as u16
 }
 
 // The starts of all jobs.
-fn starts(s: &State, out: &mut [u16])
-    requires { length out.old ≡ 24 }
-    ensures { StartsOf s.now 24 out.new }
+fn starts(s: &State) -> [u16; 24]
+    ensures { StartsOf s.now 24 result }
 {
-    for j in 0..24 {
-        out[j] = start_at(s, j);
-    }
+    array::from_fn(|j| start_at(s, j))
 }
 
 // A state without a flaw whose lower bounds are settled: they are a plan, or nothing fits.
@@ -203,6 +166,6 @@ pub fn leaf(s: &State, t: &Tables, out: &mut [u16; 24]) -> bool
     if !stand_all(s, t) {
         return false;
     }
-    starts(s, out);
+    *out = starts(s);
     true
 }

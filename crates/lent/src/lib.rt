@@ -17,13 +17,6 @@ fn low(x: u64) -> u32
     (x % 4294967296) as u32
 }
 
-// The lowest fact of a word, 64 for none.
-pub fn first(w: u64) -> usize
-    ensures { result ≡ least (has w) 64 }
-{
-    facts::lowest(w) as usize
-}
-
 // The conditions of job b, for 24 the goals.
 pub fn wants(t: &Tables, b: usize) -> u64
     requires { b ≤ 24 }
@@ -144,5 +137,5 @@ pub fn put_led(t: &mut Tables, a: usize, n: usize)
 pub fn put_bound(t: &mut Tables, x: u32)
     ensures { Sets t.old 852 x t.new }
 {
-    put(t, 852, x as u64);
+    put(t, 852, u64::from(x));
 }

@@ -62,8 +62,8 @@ pub fn put_refused(number: u8, place: u16, out: &mut [u8]) -> usize
     ensures { Lays 20 (refused_line number place) 0 out.old out.new result }
 {
     let word = put_word(b"refused ", 0, out);
-    let next = put_then(number as u32, 32, word, out);
-    put_then(place as u32, 10, next, out)
+    let next = put_then(u32::from(number), 32, word, out);
+    put_then(u32::from(place), 10, next, out)
 }
 
 // The line of the least bound.
@@ -90,7 +90,7 @@ pub fn put_pair(a: u8, b: u8, at: usize, out: &mut [u8]) -> usize
     requires { at + 19 ≤ length out.old }
     ensures { Lays 19 (pair_line a b) at out.old out.new result }
 {
-    let first = put_number(a as u32, at, out);
+    let first = put_number(u32::from(a), at, out);
     let word = put_word(b" before ", first, out);
-    put_then(b as u32, 10, word, out)
+    put_then(u32::from(b), 10, word, out)
 }

@@ -34,29 +34,23 @@ pub struct Row {
 pub fn over_by(start: u16, duration: u16, lag: u16, at: u32) -> bool
     ensures { result ≡ (start_in start && leb (start + duration + lag) at) }
 {
-    start != 65535 && start as u32 + duration as u32 + lag as u32 <= at
+    start != 65535 && u32::from(start) + u32::from(duration) + u32::from(lag) <= at
 }
 
 // The job is in, finishes, with a lag behind it, after `from`, and starts before `till` with the rear behind it.
 fn in_way(start: u16, duration: u16, lag: u16, from: u32, till: u32, rear: u16) -> bool
     ensures { result ≡ (start_in start && (ltb from (start + duration + lag) && ltb start (till + rear))) }
 {
-    if start == 65535 {
-        return false;
-    }
-    from < start as u32 + duration as u32 + lag as u32 && (start as u64) < till as u64 + rear as u64
+    start != 65535
+        && from < u32::from(start) + u32::from(duration) + u32::from(lag)
+        && u64::from(start) < u64::from(till) + u64::from(rear)
 }
 
 // The word, where both tests pass.
 fn word_if(first: bool, second: bool, w: u64) -> u64
     ensures { Word (λ p. has w p && (first && second)) result }
 {
-    if first {
-        if second {
-            return w;
-        }
-    }
-    0
+    if first && second { w } else { 0 }
 }
 
 // The facts that some job deletes which is not the holder, and neither finishes a lag before `from` nor starts the holder's lag after its finish.
@@ -64,12 +58,11 @@ fn blocked(l: Loaded, q: Ask, s: &[u16], c: Holder, lag: u16, from: u32) -> u64
     requires { Given q s.now }
     ensures { Word (λ p. any (blocks (problem l q) (starts s.now) p (consumer_of c) lag from) q.jobs) result }
 {
-    let n = q.jobs;
     let mut w = 0u64;
-    for d in 0..n {
+    for d in 0..q.jobs {
         let a = l.jobs[d];
         let way = in_way(s[d], a.duration, lag, from, c.till, c.lag);
-        w = w | word_if(way, d != c.me, a.deletions);
+        w |= word_if(way, d != c.me, a.deletions);
     }
     w
 }
@@ -91,7 +84,7 @@ fn job_fits(l: Loaded, q: Ask, s: &[u16], c: Holder, a: usize) -> u64
     if over_by(s[a], j.duration, c.lag, c.at) {
         return facts::less(
             j.additions,
-            blocked(l, q, s, c, tables::gap(q), s[a] as u32),
+            blocked(l, q, s, c, tables::gap(q), u32::from(s[a])),
         );
     }
     0
@@ -102,11 +95,10 @@ fn named_row(l: Loaded, q: Ask, s: &[u16], c: Holder, want: u64) -> Row
     requires { Given q s.now }
     ensures { RowOf (problem l q) (starts s.now) (consumer_of c) (has want) result }
 {
-    let n = q.jobs;
     let start = start_fits(l, q, s, c);
     let mut left = facts::less(want, start);
     let mut by = [0u64; 24];
-    for a in 0..n {
+    for a in 0..q.jobs {
         let fit = job_fits(l, q, s, c, a);
         by[a] = left & fit;
         left = facts::less(left, fit);
@@ -123,8 +115,8 @@ fn holder_at(b: usize, start: u16, duration: u16, lag: u16) -> Holder
 {
     Holder {
         me: b,
-        at: start as u32,
-        till: start as u32 + duration as u32,
+        at: u32::from(start),
+        till: u32::from(start) + u32::from(duration),
         lag,
     }
 }

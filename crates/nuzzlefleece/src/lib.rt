@@ -31,7 +31,7 @@ use batches::BatchAnswer;
 use following::{Screen, Watch};
 use jobfile::Read;
 use lateness::Overruns;
-use opentable::{OpenTable, Replacement, Wanted};
+use opentable::{Edited, OpenTable, Replacement, Wanted};
 use readings::{BenchReading, Opening};
 use reasons::{Question, Reason};
 use rules::ClashNumbers;
@@ -48,8 +48,7 @@ pub fn nuzzlefleece_version() -> u32
 pub fn nuzzlefleece_check_plan(t: &[Action], q: Ask, starts: &[u16]) -> Answer
     ensures { ChecksPlan (loaded t.now) q starts.now result }
 {
-    let l = records::load(t);
-    verdict::check_plan(l, q, starts)
+    verdict::check_plan(records::load(t), q, starts)
 }
 
 // Why two jobs with these records clash, by kind and lowest fact.
@@ -63,80 +62,70 @@ pub fn nuzzlefleece_why_clash(one: Action, other: Action) -> ClashNumbers
 pub fn nuzzlefleece_plan_within(t: &[Action], q: Ask, out: &mut [u16]) -> Answer
     ensures { PlansWithin (loaded t.now) q out.old out.new result }
 {
-    let l = records::load(t);
-    planning::plan_within(l, q, out)
+    planning::plan_within(records::load(t), q, out)
 }
 
 // The least bound, with the first plan at it.
 pub fn nuzzlefleece_least_bound(t: &[Action], q: Ask, out: &mut [u16]) -> Answer
     ensures { BoundsWithin (loaded t.now) q out.old out.new result }
 {
-    let l = records::load(t);
-    planning::least_bound(l, q, out)
+    planning::least_bound(records::load(t), q, out)
 }
 
 // The table of supports of a valid plan, 64 bytes a job and 64 for End.
 pub fn nuzzlefleece_supports(t: &[Action], q: Ask, starts: &[u16], out: &mut [u8]) -> Answer
     ensures { Supports (loaded t.now) q starts.now out.old out.new result }
 {
-    let l = records::load(t);
-    bindings::supports(l, q, starts, out)
+    bindings::supports(records::load(t), q, starts, out)
 }
 
 // The binding pairs of a valid plan, two bytes a pair, and their count.
 pub fn nuzzlefleece_binding_pairs(t: &[Action], q: Ask, starts: &[u16], out: &mut [u8]) -> Answer
     ensures { Pairs (loaded t.now) q starts.now out.old out.new result }
 {
-    let l = records::load(t);
-    bindings::binding_pairs(l, q, starts, out)
+    bindings::binding_pairs(records::load(t), q, starts, out)
 }
 
 // The words of started and finished jobs after an event of a plan's job, the facts now, and the jobs that may start.
 pub fn nuzzlefleece_follow(t: &[Action], w: Watch, starts: &[u16]) -> Screen
     ensures { Following (loaded t.now) w starts.now result }
 {
-    let l = records::load(t);
-    following::follow(l, w, starts)
+    following::follow(records::load(t), w, starts)
 }
 
 // When all is finished at the latest, where each job of a valid plan runs over by up to so many quarter hours.
 pub fn nuzzlefleece_how_late(t: &[Action], o: Overruns, starts: &[u16]) -> Answer
     ensures { HowLate (loaded t.now) o starts.now result }
 {
-    let l = records::load(t);
-    lateness::how_late(l, o, starts)
+    lateness::how_late(records::load(t), o, starts)
 }
 
 // The earliest estimates, one a job.
 pub fn nuzzlefleece_earliest(t: &[Action], q: Ask, out: &mut [u16]) -> Answer
     ensures { Earliest (loaded t.now) q out.old out.new result }
 {
-    let l = records::load(t);
-    estimates::earliest(l, q, out)
+    estimates::earliest(records::load(t), q, out)
 }
 
 // The least starts, one a job, for pairs of two bytes each.
 pub fn nuzzlefleece_settle(t: &[Action], q: Ask, pairs: &[u8], out: &mut [u16]) -> Answer
     ensures { Settling (loaded t.now) q pairs.now out.old out.new result }
 {
-    let l = records::load(t);
-    settle::settle(l, q, pairs, out)
+    settle::settle(records::load(t), q, pairs, out)
 }
 
 // The chain of asked pairs that ends at a job of settled starts, first job first, and how many jobs it has.
 pub fn nuzzlefleece_why_start(t: &[Action], q: Question, pairs: &[u8], out: &mut [u8]) -> Answer
     ensures { WhyStart (loaded t.now) q pairs.now out.old out.new result }
 {
-    let l = records::load(t);
-    reasons::why_start(l, q, pairs, out)
+    reasons::why_start(records::load(t), q, pairs, out)
 }
 
 // Why there is no plan within the bound: a goal never reachable, a goal above the bound, or neither.
 pub fn nuzzlefleece_why_no_plan(t: &[Action], q: Ask) -> Reason
     ensures { WhyNoPlan (loaded t.now) q result }
 {
-    let l = records::load(t);
-    reasons::why_no_plan(l, q)
+    reasons::why_no_plan(records::load(t), q)
 }
 
 // Expands batches, a house group each, into the lent records, one a job; those behind the last job stay as they are. No bound comes out.
@@ -145,7 +134,7 @@ pub fn nuzzlefleece_batches(groups: &[u8], t: &mut [Action]) -> BatchAnswer
 {
     let r = batches::expand(groups, t.len());
     records::scatter(t, r.table, r.ask.jobs);
-    batches::batched(r)
+    r.into()
 }
 
 // What reading a job file says beside the records.
@@ -156,13 +145,15 @@ pub struct ReadAnswer {
     pub ask: Ask,
 }
 
-// The answer and the numbers of what was read.
-fn told(r: Read) -> ReadAnswer
-    ensures { result ≡ told r }
-{
-    let answer = r.answer;
-    let ask = r.ask;
-    ReadAnswer { answer, ask }
+impl From<Read> for ReadAnswer {
+    ghost from_gives = { λ r a. a ≡ told r };
+
+    fn from(r: Read) -> ReadAnswer {
+        ReadAnswer {
+            answer: r.answer,
+            ask: r.ask,
+        }
+    }
 }
 
 // Reads a job file into the lent records, one a job; those behind the last job stay as they are.
@@ -171,7 +162,7 @@ pub fn nuzzlefleece_read_file(file: &[u8], t: &mut [Action]) -> ReadAnswer
 {
     let r = jobfile_read::read_file(file, t.len());
     records::scatter(t, r.table, r.ask.jobs);
-    told(r)
+    r.into()
 }
 
 // What a save is made of beside the records: the numbers, and how many bytes of the buffer are in use.
@@ -182,19 +173,11 @@ pub struct Save {
     pub used: usize,
 }
 
-// The save of a table by value.
-fn append(l: Loaded, s: Save, buf: &mut [u8]) -> Answer
-    ensures { Writes l s.ask s.used buf.old buf.new result }
-{
-    jobfile_write::write_file(l, s.ask, s.used, buf)
-}
-
 // Appends a save behind the bytes used, and returns the new length.
 pub fn nuzzlefleece_write_file(t: &[Action], s: Save, buf: &mut [u8]) -> Answer
     ensures { Writes (loaded t.now) s.ask s.used buf.old buf.new result }
 {
-    let l = records::load(t);
-    append(l, s, buf)
+    jobfile_write::write_file(records::load(t), s.ask, s.used, buf)
 }
 
 // Moves the last save of the bytes in use to the front of the buffer, and returns the new length.
@@ -214,8 +197,7 @@ pub fn nuzzlefleece_read_text(
 ) -> Answer
     ensures { ReadsText (loaded t.now) q names.now text.now out.old out.new result }
 {
-    let l = records::load(t);
-    plantext_read::read_text(l, q, names, text, out)
+    plantext_read::read_text(records::load(t), q, names, text, out)
 }
 
 // Writes the text of a valid plan, a line a step, into the first bytes of a lent buffer; its length comes back.
@@ -228,72 +210,57 @@ pub fn nuzzlefleece_write_text(
 ) -> Answer
     ensures { WritesText (loaded t.now) q names.now starts.now out.old out.new result }
 {
-    let l = records::load(t);
-    plantext_write::write_text(l, q, names, starts, out)
+    plantext_write::write_text(records::load(t), q, names, starts, out)
+}
+
+// What an edit says; the table after it is left in the lent one.
+fn left(e: Edited, t: &mut OpenTable) -> Answer
+    ensures { Leaves e t.new result }
+{
+    *t = e.table;
+    e.answer
 }
 
 // Begins a lent table without jobs.
 pub fn nuzzlefleece_begin(t: &mut OpenTable, atoms: u8) -> Answer
     ensures { Leaves (beginning t.old atoms) t.new result }
 {
-    let s = opentable::begun(*t, atoms);
-    *t = s.table;
-    s.answer
+    left(opentable::begun(*t, atoms), t)
 }
 
 // Adds a job behind the last one of a lent table, and returns its number.
 pub fn nuzzlefleece_add(t: &mut OpenTable, a: Action) -> Answer
     ensures { Leaves (adding t.old a) t.new result }
 {
-    let s = opentable::added(*t, a);
-    *t = s.table;
-    s.answer
+    left(opentable::added(*t, a), t)
 }
 
 // Replaces a job of a lent table.
 pub fn nuzzlefleece_replace(t: &mut OpenTable, r: Replacement) -> Answer
     ensures { Leaves (replacing t.old r) t.new result }
 {
-    let s = opentable::replaced(*t, r);
-    *t = s.table;
-    s.answer
+    left(opentable::replaced(*t, r), t)
 }
 
 // Removes a job of a lent table; the later jobs move down by one.
 pub fn nuzzlefleece_remove(t: &mut OpenTable, job: u8) -> Answer
     ensures { Leaves (removing t.old job) t.new result }
 {
-    let s = opentable::removed(*t, job);
-    *t = s.table;
-    s.answer
-}
-
-// The first valid plan of an open table by value.
-fn plan_from(t: OpenTable, w: Wanted, out: &mut [u16]) -> Answer
-    ensures { PlansWithin (jobs_of t) (ask_of t w) out.old out.new result }
-{
-    planning::plan_within(opentable::jobs_of(t), opentable::ask_of(t, w), out)
+    left(opentable::removed(*t, job), t)
 }
 
 // The first valid plan of a lent table within the bound, in the stated order.
 pub fn nuzzlefleece_plan_open(t: &OpenTable, w: Wanted, out: &mut [u16]) -> Answer
     ensures { PlansWithin (jobs_of t.now) (ask_of t.now w) out.old out.new result }
 {
-    plan_from(*t, w, out)
-}
-
-// The least bound of an open table by value.
-fn least_from(t: OpenTable, w: Wanted, out: &mut [u16]) -> Answer
-    ensures { BoundsWithin (jobs_of t) (ask_of t w) out.old out.new result }
-{
-    planning::least_bound(opentable::jobs_of(t), opentable::ask_of(t, w), out)
+    planning::plan_within(opentable::jobs_of(*t), opentable::ask_of(*t, w), out)
 }
 
 // The least bound of a lent table, with the first plan at it.
 pub fn nuzzlefleece_least_bound_open(t: &OpenTable, w: Wanted, out: &mut [u16]) -> Answer
     ensures { BoundsWithin (jobs_of t.now) (ask_of t.now w) out.old out.new result }
 {
-    least_from(*t, w, out)
+    planning::least_bound(opentable::jobs_of(*t), opentable::ask_of(*t, w), out)
 }
 
 // Opening facts from a reading. The marks stand side by side in the three tables, the first `count` of each.

@@ -1,22 +1,19 @@
 -- What an edit says and leaves, by the checks of the table.
 -- Assumes nothing.
-use mathlib.Core.Path.{◌≡◌, refl, sym, ap, ap₂, subst, ◌∙◌}
-use mathlib.Core.Bool.{Bool, true, false, not, ◌||◌, cond}
-use mathlib.Core.List.{List}
+use mathlib.Core.Path.{◌≡◌, sym, ap, ap₂, subst, ◌∙◌}
+use mathlib.Core.Bool.{Bool, true, false, not, cond}
 use Prim.Native.Nat.{ℕ, ◌≤◌, ◌<◌}
 use native.Mathlib.Omega.{arith}
 use borrow.Author.Tests.{ne_eqb}
-use lib.Dec.{T, eqb, leb, ltb, ltb→lt, lt→ltb, leb→le, le→leb}
-use lib.ListN.{replicate}
+use lib.Dec.{eqb, leb, ltb, ltb→lt, lt→ltb, leb→le, le→leb}
 use Rattle.refusals.specs.Refusals.{Verdict, accepted, refused, refuse_if}
 use Rattle.refusals.proofs.Refused.{if_pass, if_hit}
 use Rattle.rules.specs.Table.{Problem, between, table_checks, bound_check}
 use Rattle.rules.proofs.CheckLists.{table_checks_lem}
-use Rattle.tables.specs.declared.Action.{Action}
 use Rattle.tables.specs.declared.Loaded.{Loaded}
 use Rattle.tables.specs.declared.Ask.{Ask}
 use Rattle.tables.specs.declared.Answer.{Answer}
-use Rattle.tables.specs.Tables.{unmarked, answer_of, no_jobs, call_checks}
+use Rattle.tables.specs.Tables.{unmarked, answer_of, call_checks}
 use Rattle.tables.specs.Steps.{Judges, Cleared}
 use Rattle.tables.proofs.Laws.{said, numbered, answer_no}
 use Rattle.tables.proofs.Calls.{accepts_by}
@@ -24,7 +21,7 @@ use Rattle.opentable.specs.declared.OpenTable.{OpenTable}
 use Rattle.opentable.specs.declared.Wanted.{Wanted}
 use Rattle.opentable.specs.declared.Replacement.{Replacement}
 use Rattle.opentable.specs.declared.Edited.{Edited}
-use Rattle.opentable.specs.Open.{jobs_of, ask_of, present, empty_of, open_checks, edit_checks, edited, exchanged, reclashed, without_job, beginning, replacing, removing}
+use Rattle.opentable.specs.Open.{jobs_of, ask_of, present, open_checks, edit_checks, edited, exchanged, reclashed, without_job, replacing, removing}
 use Rattle.opentable.specs.Steps.{Overfull}
 
 -- ── the checks of the table are those of a call on it that wants nothing ──
@@ -87,26 +84,7 @@ there t k u l = if_pass (leb t.count k) 22 k (open_checks u) (λ h. omega (arith
 pub not_there : (t : OpenTable) (k : ℕ) (u : OpenTable) → t.count ≤ k → edit_checks t k u ≡ refused 22 k
 not_there t k u l = if_hit (leb t.count k) 22 k (open_checks u) (le→leb t.count k l)
 
--- ── the table without jobs ──
-
-abbrev empty_with : ℕ → List Action → OpenTable
-empty_with atoms jobs = record { atoms = atoms; count = 0; jobs = jobs; rows = replicate 24 0 }
-
-pub emptied : (atoms : ℕ) (l : Loaded) → l ≡ no_jobs 0 → empty_with atoms l.jobs ≡ empty_of atoms
-emptied atoms l e = ap (λ (x : Loaded). empty_with atoms x.jobs) e
-
 -- ── each call ──
-
-module _ (t : OpenTable) (atoms : ℕ) (u : OpenTable) (r : Answer) (e : u ≡ empty_of atoms) (s : r ≡ answer_of (open_checks u) 0 0) where
-  says : r ≡ answer_of (open_checks (empty_of atoms)) 0 0
-  says = s ∙ said 0 0 (sym (ap open_checks e))
-
-  pub begun_no : (r.number ≡ 0 → ⊥) → both r t ≡ beginning t atoms
-  begun_no n = refused_so (open_checks (empty_of atoms)) r 0 (empty_of atoms) t says n
-
-  pub begun_yes : r.number ≡ 0 → both r u ≡ beginning t atoms
-  begun_yes z = let h = open_accepts (empty_of atoms) r says z in
-      ap (both r) e ∙ accepted_so (open_checks (empty_of atoms)) r 0 (empty_of atoms) t h (says ∙ said 0 0 (sym h))
 
 -- an edit of job k that is not there, one whose table u is refused, and one whose table is taken
 module _ (t : OpenTable) (k : ℕ) (u : OpenTable) (r : Answer) (new : OpenTable) where

@@ -2,24 +2,21 @@
 -- Assumes nothing.
 use mathlib.Core.Path.{◌≡◌, refl, sym, ap, ap₂, subst, ◌∙◌}
 use mathlib.Core.Logic.{◌⊎◌, inl, inr, ⊎_elim}
-use mathlib.Core.Bool.{Bool, true, false, not, ◌&&◌, ◌||◌, cond}
+use mathlib.Core.Bool.{Bool, true, false, ◌&&◌, ◌||◌, cond}
 use mathlib.Core.List.{List}
-use Prim.Native.Nat.{ℕ, zero, suc, ◌+◌, ◌-◌, ◌^◌, ◌≤◌, ◌<◌}
+use Prim.Native.Nat.{ℕ, ◌-◌, ◌≤◌, ◌<◌}
 use native.Mathlib.Omega.{arith}
-use native.Mathlib.Numerals.{add-one}
-use lib.Dec.{T, eqb, ltb, eqb→eq, eqb_refl, ltb→lt, lt→ltb}
+use lib.Dec.{T, eqb, ltb, eqb→eq, lt→ltb}
 use lib.ListN.{length, get_or, replicate, get_or-eq_default}
 use Rattle.facts.specs.Facts.{has}
 use Rattle.readings.specs.Opening.{word_of}
 use Rattle.facts.proofs.Sets.{has_zero}
-use Rattle.facts.proofs.Bools.{T?, same, and_l, and_r, and_of, or_l, or_r, or_cases, or_at, chosen, unchosen}
+use Rattle.facts.proofs.Bools.{T?, same, and_l, and_r, and_of, or_l, or_r, or_cases, chosen, unchosen}
 use Rattle.rules.specs.Table.{Problem}
 use Rattle.rules.specs.Clashes.{interfere}
 use Rattle.rules.proofs.Clashing.{flip}
 use Rattle.tables.specs.declared.Loaded.{Loaded}
-use Rattle.tables.specs.declared.Ask.{Ask}
 use Rattle.tables.specs.declared.Action.{Action}
-use Rattle.tables.specs.Tables.{no_job, record_at, filled, problem}
 use Rattle.tables.proofs.Lent.{filled_same}
 use Rattle.opentable.specs.declared.OpenTable.{OpenTable}
 use Rattle.opentable.specs.Open.{jobs_of, ask_of, present, places, bit_rows, kept_bit, clash_bit, moved_from, reclashed, without_job}
@@ -27,29 +24,6 @@ use Rattle.opentable.specs.Steps.{Clashing, moved_jobs}
 use Rattle.opentable.proofs.Given.{word_bit, word_is, word_same}
 
 -- ── the bits of job k ──
-
--- one job more: bit j is worked out, those below were before
-pub one_clash : (f : ℕ → Bool) (j w : ℕ) (b : Bool) → w ≡ word_of (λ i. ltb i j && f i) 32 → b ≡ f j → word_of (λ i. cond (eqb i j) b (has w i)) 32 ≡ word_of (λ i. ltb i (j + 1) && f i) 32
-one_clash f j w b e is = word_same _ _ 32 (λ i l. go i l (T? (eqb i j)))
-  where
-    go : (i : ℕ) → i < 32 → T (eqb i j) ⊎ (T (eqb i j) → ⊥) → cond (eqb i j) b (has w i) ≡ (ltb i (j + 1) && f i)
-    go i l (inl t) = let m = eqb→eq i j t in
-        chosen (eqb i j) b (has w i) t ∙ (is ∙ (ap f (sym m) ∙ same (f i) (ltb i (j + 1) && f i) (and_of (ltb i (j + 1)) (f i) (lt→ltb i (j + 1) (omega (arith, m)))) (and_r (ltb i (j + 1)) (f i))))
-    go i l (inr n) =
-        unchosen (eqb i j) b (has w i) n
-        ∙ (ap (λ (x : ℕ). has x i) e ∙ (word_bit (λ i. ltb i j && f i) 32 i l
-        ∙ same (ltb i j && f i) (ltb i (j + 1) && f i)
-        (λ t. and_of (ltb i (j + 1)) (f i) (lt→ltb i (j + 1) (omega (arith, ltb→lt i j (and_l (ltb i j) (f i) t)))) (and_r (ltb i j) (f i) t))
-        (λ t. and_of (ltb i j) (f i) (lt→ltb i j (below i n (or_at i j (omega (arith, ltb→lt i (j + 1) (and_l (ltb i (j + 1)) (f i) t)))))) (and_r (ltb i (j + 1)) (f i) t))))
-      where
-        below : (i : ℕ) → (T (eqb i j) → ⊥) → (i < j) ⊎ (i ≡ j) → i < j
-        below i n (inl l) = l
-        below i n (inr e) = absurd (n (subst (λ (x : ℕ). T (eqb i x)) e (eqb_refl i)))
-
--- no job yet
-pub no_clash : (f : ℕ → Bool) → 0 ≡ word_of (λ i. ltb i 0 && f i) 32
-unfolding word_of
-no_clash f = refl
 
 -- a table of the same atoms
 abbrev with_rows : OpenTable → ℕ → List Action → List ℕ → OpenTable
@@ -100,32 +74,13 @@ module _ (t : OpenTable) (k w : ℕ) (rows : List ℕ) (l : k < t.count) (m : t.
   unfolding reclashed
   reclashed_so e = ap (with_rows t t.count t.jobs) (e ∙ filled_same anew (λ i. word_of (wanted i) 32) 24 (replicate 24 0) one_row)
 
--- ── where a place comes from ──
+-- ── what stands behind the 24 rows ──
 
-pub stays_there : (k i : ℕ) → i < k → i ≡ moved_from k i
-stays_there k i l = sym (chosen (ltb i k) i (suc i) (lt→ltb i k l))
-
-pub from_next : (k i : ℕ) → k ≤ i → i + 1 ≡ moved_from k i
-from_next k i l = add-one i ∙ sym (unchosen (ltb i k) i (suc i) (λ t. omega (arith, ltb→lt i k t, l)))
-
--- a place of the 24 comes from one of them or from behind them
-pub moved_within : (k i : ℕ) → i < 24 → moved_from k i ≤ 24
-moved_within k i l = go (ltb i k)
-  where
-    go : (b : Bool) → cond b i (suc i) ≤ 24
-    go true = omega arith
-    go false = omega (arith, l)
-
--- ── what stands behind the 24 rows and jobs ──
-
-pub row_behind : (rows : List ℕ) (k n : ℕ) → length rows ≡ 24 → n ≡ 24 → 0 ≡ word_of (λ j. has (get_or rows n 0) (moved_from k j)) 32
-row_behind rows k n s e =
-    word_is (λ j. has (get_or rows n 0) (moved_from k j)) 32 0 (omega arith) (λ j l.
+pub row_behind : (rows : List ℕ) (k n : ℕ) → length rows ≤ n → 0 ≡ word_of (λ j. has (get_or rows n 0) (moved_from k j)) 32
+row_behind rows k n l =
+    word_is (λ j. has (get_or rows n 0) (moved_from k j)) 32 0 (omega arith) (λ j m.
     same (has 0 j) (has (get_or rows n 0) (moved_from k j)) (λ t. absurd (has_zero j t))
-    (λ t. absurd (has_zero (moved_from k j) (subst (λ (x : ℕ). T (has x (moved_from k j))) (get_or-eq_default rows 0 (omega (arith, s, e))) t))))
-
-pub job_behind : (jobs : List Action) (n : ℕ) → length jobs ≡ 24 → n ≡ 24 → no_job ≡ record_at jobs n
-job_behind jobs n s e = sym (get_or-eq_default jobs no_job (omega (arith, s, e)))
+    (λ t. absurd (has_zero (moved_from k j) (subst (λ (x : ℕ). T (has x (moved_from k j))) (get_or-eq_default rows 0 l) t))))
 
 -- ── the table without job k ──
 

@@ -1,3 +1,4 @@
+pub mod Arrays
 pub mod Given
 pub mod Words
 pub mod Laws

@@ -2,20 +2,20 @@
 -- Assumes nothing.
 use mathlib.Core.Path.{◌≡◌, refl, sym, ap, ap₂, subst, ◌∙◌}
 use mathlib.Core.Logic.{◌≢◌, ◌↔◌, ◌⊎◌, inl, inr, ⊎_elim}
-use mathlib.Core.Bool.{Bool, ◌&&◌, ◌||◌, cond}
+use mathlib.Core.Bool.{◌&&◌, ◌||◌, cond}
 use mathlib.Core.List.{List, [], ◌∷◌}
-use Prim.Native.Nat.{ℕ, suc, ◌+◌, ◌-◌, ◌≤◌, ◌<◌}
+use Prim.Native.Nat.{ℕ, ◌+◌, ◌-◌, ◌≤◌, ◌<◌}
 use native.Mathlib.Decide.{dec_lt}
 use native.Mathlib.Omega.{arith}
 use lib.Dec.{T, eqb, leb, eqb→eq, le→leb}
-use lib.ListN.{length, get_or, set, replicate, length-replicate, length-set, get_or-replicate, get_or-eq_default}
+use lib.ListN.{set, replicate, length-replicate, length-set, get_or-replicate, get_or-eq_default}
 use lib.Seq.{get_or-set_same, get_or-set_other, ext_get_or}
 use Rattle.facts.specs.Facts.{has}
 use Rattle.facts.specs.Least.{any}
 use Rattle.facts.proofs.Bools.{T?, or_at, eqb_of, chosen, unchosen}
-use Rattle.refusals.specs.Refusals.{Verdict, accepted, refuse_if}
+use Rattle.refusals.specs.Refusals.{Verdict, accepted}
 use Rattle.refusals.proofs.Refused.{if_checks, then_checks, if_zero}
-use Rattle.rules.specs.Table.{strays, job_strays, undoes, table_checks}
+use Rattle.rules.specs.Table.{strays, job_strays, undoes}
 use Rattle.rules.proofs.CheckLists.{table_checks_lem}
 use Rattle.rules.proofs.Checked.{Passed, passed, passes}
 use Rattle.tables.specs.declared.Action.{Action}
@@ -24,8 +24,7 @@ use Rattle.tables.specs.Steps.{stray_record}
 use Rattle.tables.proofs.Laws.{accepts}
 use Rattle.tables.proofs.Lent.{length_filled}
 use Rattle.opentable.specs.declared.OpenTable.{OpenTable}
-use Rattle.opentable.specs.declared.Replacement.{Replacement}
-use Rattle.opentable.specs.Open.{present, places, bit_rows, clash_bit, moved_from, empty_of, enlarged, exchanged, reclashed, without_job, edited, open_checks, edit_checks, beginning, adding, replacing, removing}
+use Rattle.opentable.specs.Open.{present, places, bit_rows, clash_bit, moved_from, empty_of, enlarged, exchanged, reclashed, without_job, edited, open_checks, edit_checks, beginning, adding}
 use Rattle.opentable.specs.Rows.{Right, Orderly, Edit, begin, add, replace, remove, editing, after_edits}
 use Rattle.opentable.specs.Steps.{with_record}
 use Rattle.opentable.proofs.Rows.{place_at, place_behind, changed_right, moved_there, without_right, empty_right, job_moved}

@@ -2,15 +2,15 @@
 -- Assumes nothing.
 use mathlib.Core.Path.{◌≡◌, refl, sym, ap, ap₂, subst, ◌∙◌}
 use mathlib.Core.Logic.{◌≢◌, ◌⊎◌, inl, inr, ⊎_elim}
-use mathlib.Core.Bool.{Bool, true, false, not, ◌&&◌, ◌||◌, cond}
-use mathlib.Core.List.{List, [], ◌∷◌}
-use Prim.Native.Nat.{ℕ, zero, suc, ◌+◌, ◌-◌, ◌≤◌, ◌<◌}
+use mathlib.Core.Bool.{Bool, not, ◌&&◌, ◌||◌, cond}
+use mathlib.Core.List.{List}
+use Prim.Native.Nat.{ℕ, suc, ◌-◌, ◌≤◌, ◌<◌}
 use native.Mathlib.Decide.{dec_lt}
 use native.Mathlib.Omega.{arith}
 use mathlib.Core.Logic.{◌↔◌}
 use lib.Dec.{T, eqb, ltb, eqb→eq, eqb_refl, ltb→lt, lt→ltb, T_not}
-use lib.ListN.{length, get_or, set, replicate, length-replicate, length-set, get_or-eq_default}
-use lib.Seq.{get_or-set_same, get_or-set_other}
+use lib.ListN.{get_or, replicate, length-replicate, get_or-eq_default}
+use lib.Seq.{get_or-set_other}
 use Rattle.facts.specs.Facts.{has}
 use Rattle.readings.specs.Opening.{word_of}
 use Rattle.facts.proofs.Bools.{T?, same, and_l, and_r, and_of, or_l, or_r, eqb_of, at_most, chosen, unchosen}
@@ -20,9 +20,9 @@ use Rattle.rules.specs.Clashes.{clash_of, numbers, interfere}
 use Rattle.interference.specs.Records.{record_masks}
 use Rattle.tables.specs.declared.Action.{Action}
 use Rattle.tables.specs.Tables.{no_job, record_at, filled}
-use Rattle.tables.proofs.Lent.{length_filled, filled_at, filled_same, filled_rest}
+use Rattle.tables.proofs.Lent.{length_filled, filled_at, filled_same}
 use Rattle.opentable.specs.declared.OpenTable.{OpenTable}
-use Rattle.opentable.specs.Open.{present, places, bit_rows, kept_bit, clash_bit, moved_from, empty_of, enlarged, exchanged, reclashed, without_job}
+use Rattle.opentable.specs.Open.{present, places, bit_rows, kept_bit, clash_bit, moved_from, empty_of, reclashed, without_job}
 use Rattle.opentable.specs.Rows.{Right}
 use Rattle.opentable.specs.Steps.{with_record}
 use Rattle.opentable.proofs.Given.{word_in, word_bit, word_same}

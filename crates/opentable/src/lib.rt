@@ -10,6 +10,7 @@ ghost use Rattle.tables.specs.Steps.{Judges};
 ghost use Rattle.opentable.specs.Open.{jobs_of, ask_of, places, bit_rows, moved_from, empty_of, reclashed, without_job, edited, open_checks, beginning, adding, replacing, removing};
 ghost use Rattle.opentable.specs.Steps.{Clashing, moved_jobs, with_record, Overfull};
 
+use std::array;
 use tables::{Action, Answer, Ask, Loaded};
 
 // The atom count with the mark of its rule, how many jobs there are, the jobs, and of each a bit for every job with which it clashes.
@@ -39,7 +40,7 @@ pub struct Replacement {
     pub record: Action,
 }
 
-// What an edit says, and the table after it.
+// What an edit says, and the table after it. One struct, since the promises `beginning`, `adding`, `replacing` and `removing` speak of it.
 #[derive(Clone, Copy)]
 pub struct Edited {
     pub answer: Answer,
@@ -99,12 +100,7 @@ fn clash_word(l: Loaded, k: usize) -> u32
     requires { (k < 24) × (l.lent ≤ 24) }
     ensures { Clashing l k result }
 {
-    let n = l.lent;
-    let mut w: u32 = 0;
-    for j in 0..n {
-        w = with_bit(w, j, interference::interferes(l, k, j));
-    }
-    w
+    jobs::those(l.lent, |j| interference::interferes(l, k, j))
 }
 
 // Row i, where `word` is what row k shall be: that word, or the row as it was but for bit k.
@@ -123,11 +119,7 @@ fn rows_anew(rows: [u32; 24], word: u32, k: usize) -> [u32; 24]
     requires { k < 24 }
     ensures { result ≡ places 0 (λ i. cond (eqb i k) word (word_of (λ j. cond (eqb j k) (has word i) (has (get_or rows i 0) j)) 32)) }
 {
-    let mut anew = [0u32; 24];
-    for i in 0..24 {
-        anew[i] = row_anew(rows[i], word, k, i);
-    }
-    anew
+    array::from_fn(|i| row_anew(rows[i], word, k, i))
 }
 
 // The table with the bits of job k worked out anew.
@@ -136,15 +128,8 @@ fn reclashed(t: OpenTable, k: usize) -> OpenTable
     ensures { result ≡ reclashed t k }
 {
     let word = clash_word(jobs_of(t), k);
-    let old = t.rows;
-    let rows = rows_anew(old, word, k);
-    let jobs = t.jobs;
-    OpenTable {
-        atoms: t.atoms,
-        count: t.count,
-        jobs,
-        rows,
-    }
+    let rows = rows_anew(t.rows, word, k);
+    OpenTable { rows, ..t }
 }
 
 // Where what comes to place i stood before job k went.
@@ -169,11 +154,10 @@ fn row_moved(rows: [u32; 24], k: usize, i: usize) -> u32
     requires { (k < 24) × (i < 24) }
     ensures { result ≡ word_of (λ j. has (get_or rows (moved_from k i) 0) (moved_from k j)) 32 }
 {
-    let from = moved_from(k, i);
-    if from == 24 {
-        return 0;
+    match rows.get(moved_from(k, i)) {
+        Some(&row) => squeezed(row, k),
+        None => 0,
     }
-    squeezed(rows[from], k)
 }
 
 // The rows without job k.
@@ -181,11 +165,7 @@ fn rows_moved(rows: [u32; 24], k: usize) -> [u32; 24]
     requires { k < 24 }
     ensures { result ≡ bit_rows (λ i j. has (get_or rows (moved_from k i) 0) (moved_from k j)) }
 {
-    let mut moved = [0u32; 24];
-    for i in 0..24 {
-        moved[i] = row_moved(rows, k, i);
-    }
-    moved
+    array::from_fn(|i| row_moved(rows, k, i))
 }
 
 // What comes to place i when job k goes.
@@ -193,23 +173,18 @@ fn job_moved(l: Loaded, k: usize, i: usize) -> Action
     requires { i < 24 }
     ensures { result ≡ record_at l.jobs (moved_from k i) }
 {
-    let from = moved_from(k, i);
-    if from == 24 {
-        let none = tables::no_jobs(0);
-        return tables::job_at(none, 0);
+    match l.jobs.get(moved_from(k, i)) {
+        Some(&job) => job,
+        None => tables::no_jobs(0).jobs[0],
     }
-    tables::job_at(l, from)
 }
 
 // The jobs without job k.
 fn jobs_moved(l: Loaded, k: usize) -> Loaded
     ensures { result ≡ moved_jobs l k }
 {
-    let mut moved = tables::no_jobs(l.lent);
-    for i in 0..24 {
-        moved = tables::with_job(moved, i, job_moved(l, k, i));
-    }
-    moved
+    let jobs = array::from_fn(|i| job_moved(l, k, i));
+    Loaded { jobs, ..l }
 }
 
 // The table without job k.
@@ -217,15 +192,13 @@ fn without(t: OpenTable, k: usize) -> OpenTable
     requires { (k < t.count) × (t.count ≤ 24) }
     ensures { result ≡ without_job t k }
 {
-    let moved = jobs_moved(jobs_of(t), k);
-    let jobs = moved.jobs;
-    let old = t.rows;
-    let rows = rows_moved(old, k);
+    let jobs = jobs_moved(jobs_of(t), k).jobs;
+    let rows = rows_moved(t.rows, k);
     OpenTable {
-        atoms: t.atoms,
         count: t.count - 1,
         jobs,
         rows,
+        ..t
     }
 }
 
@@ -233,9 +206,8 @@ fn without(t: OpenTable, k: usize) -> OpenTable
 fn empty_of(atoms: u8) -> OpenTable
     ensures { result ≡ empty_of atoms }
 {
-    let none = tables::no_jobs(0);
-    let jobs = none.jobs;
-    let rows = [0u32; 24];
+    let jobs = tables::no_jobs(0).jobs;
+    let rows = [0; 24];
     OpenTable {
         atoms,
         count: 0,
@@ -259,9 +231,10 @@ fn with_record(t: OpenTable, k: usize, a: Action, count: usize) -> OpenTable
 fn overfull(atoms: u8) -> Answer
     ensures { Overfull atoms result }
 {
-    let mut u = empty_of(atoms);
-    u.count = 25;
-    table_fault(u)
+    table_fault(OpenTable {
+        count: 25,
+        ..empty_of(atoms)
+    })
 }
 
 // The table u in place of t, with the bits of job k worked out anew, if it passes its checks.
@@ -309,9 +282,9 @@ pub fn added(t: OpenTable, a: Action) -> Edited
 pub fn replaced(t: OpenTable, r: Replacement) -> Edited
     ensures { result ≡ replacing t r }
 {
-    let k = r.job as usize;
+    let k = usize::from(r.job);
     if t.count <= k {
-        let answer = tables::refuse(22, r.job as u16, 0);
+        let answer = tables::refuse(22, u16::from(r.job), 0);
         return Edited { answer, table: t };
     }
     if 24 < t.count {
@@ -326,9 +299,9 @@ pub fn replaced(t: OpenTable, r: Replacement) -> Edited
 pub fn removed(t: OpenTable, job: u8) -> Edited
     ensures { result ≡ removing t job }
 {
-    let k = job as usize;
+    let k = usize::from(job);
     if t.count <= k {
-        let answer = tables::refuse(22, job as u16, 0);
+        let answer = tables::refuse(22, u16::from(job), 0);
         return Edited { answer, table: t };
     }
     let answer = table_fault(t);

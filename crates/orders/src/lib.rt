@@ -16,11 +16,11 @@ pub fn from(s: &mut State, j: usize, x: u64)
     requires { j < 24 }
     ensures { Says (From j x) s.old s.new }
 {
-    if jobs::wide(cells::hi(s, j)) < x {
+    if u64::from(cells::hi(s, j)) < x {
         cells::put_barred(s, j);
         return;
     }
-    if jobs::wide(cells::lo(s, j)) < x {
+    if u64::from(cells::lo(s, j)) < x {
         cells::put_lo(s, j, x as u32);
     }
 }
@@ -74,7 +74,7 @@ fn far(s: &mut State, a: usize, b: usize, wait: u32)
     requires { (a < 24) × (b < 24) }
     ensures { Prunes (Spaced a b wait) s.old s.new }
 {
-    if jobs::wide(cells::hi(s, b)) < cells::sum(cells::lo(s, a), wait) {
+    if u64::from(cells::hi(s, b)) < cells::sum(cells::lo(s, a), wait) {
         cells::put_never(s, a, b);
     }
 }
@@ -139,12 +139,12 @@ fn strains(s: &State, a: usize, b: usize, wait: u32) -> bool
     if cells::never(s, a, b) {
         return true;
     }
-    let early = jobs::wide(cells::lo(s, b)) < cells::sum(cells::lo(s, a), wait);
-    if early & cells::inside(s, a) {
+    let early = u64::from(cells::lo(s, b)) < cells::sum(cells::lo(s, a), wait);
+    if early && cells::inside(s, a) {
         return true;
     }
-    let late = jobs::wide(cells::hi(s, b)) < cells::sum(cells::hi(s, a), wait);
-    late & cells::inside(s, b)
+    let late = u64::from(cells::hi(s, b)) < cells::sum(cells::hi(s, a), wait);
+    late && cells::inside(s, b)
 }
 
 // The rules may tell something of the pair. Any answer is right; this one saves work.
@@ -156,7 +156,7 @@ fn stirs(s: &State, a: usize, b: usize, t: &Tables) -> bool
         return strains(s, a, b, wait);
     }
     if !cells::never(s, a, b) {
-        return jobs::wide(cells::hi(s, b)) < cells::sum(cells::lo(s, a), wait);
+        return u64::from(cells::hi(s, b)) < cells::sum(cells::lo(s, a), wait);
     }
     if cells::sure(s, b, a) {
         return false;
@@ -164,7 +164,7 @@ fn stirs(s: &State, a: usize, b: usize, t: &Tables) -> bool
     jobs::has(lent::hits(t, a), b)
 }
 
-// The pair a, b, unless the rules tell nothing of it.
+// The pair a, b, unless the rules tell nothing of it or a is a stray bit.
 fn pair_at(s: &mut State, a: usize, b: usize, t: &Tables)
     requires { b < 24 }
     ensures { Prunes (Lent t.now) s.old s.new }
@@ -185,10 +185,8 @@ fn pairs_at(s: &mut State, b: usize, t: &Tables)
     if cells::barred(s, b) {
         return;
     }
-    let mut w = !cells::outsides(s);
-    while w != 0 {
-        pair_at(s, jobs::lowest(w), b, t);
-        w = jobs::rest(w);
+    for a in jobs::each(!cells::outsides(s)) {
+        pair_at(s, a, b, t);
     }
 }
 
@@ -201,7 +199,7 @@ pub fn pairs(s: &mut State, t: &Tables)
     }
 }
 
-// m is inside and over before b: what is over before m is over before b.
+// m is inside and over before b: what is over before m is over before b. A stray bit is no job.
 fn through(s: &mut State, m: usize, b: usize)
     requires { b < 24 }
     ensures { Prunes Always s.old s.new }
@@ -224,10 +222,8 @@ fn through_all(s: &mut State, b: usize)
     requires { b < 24 }
     ensures { Prunes Always s.old s.new }
 {
-    let mut w = cells::insides(s) & cells::row_sure(s, b);
-    while w != 0 {
-        through(s, jobs::lowest(w), b);
-        w = jobs::rest(w);
+    for m in jobs::each(cells::insides(s) & cells::row_sure(s, b)) {
+        through(s, m, b);
     }
 }
 

@@ -32,7 +32,7 @@ use Rattle.reach.proofs.Words.{edone_rest, edone_words}
 use Rattle.states.specs.State.{Leads}
 use Rattle.lent.specs.Lent.{Cols, Spacing, Listed, hits_of, est_of, wait_of, led_of}
 use Rattle.turns.specs.Checked.{Leader}
-use Rattle.outset.specs.Outset.{Hit, Stands, AllWait, Lists, WaitsPut, LeadsPut, SetsOut}
+use Rattle.outset.specs.Outset.{Hit, Stands, AllWait, Lists, WaitsPut, LeadsPut, SearchedFor}
 use Rattle.outset.proofs.Apart.{waits_old}
 use native.Mathlib.Nat.{add-sub_cancel}
 
@@ -64,6 +64,10 @@ module _ (k : Loaded) (q : Ask) (few : q.jobs ≤ 24) (ok : InOrder (problem k q
     gap = omega (arith, gap_one q.atoms, (((((((((t 227 (omega arith)).there (omega arith)).there (omega arith)).there (omega arith)).there (omega arith)).there (omega arith)).there (omega arith)).there (omega arith)).there (omega arith)).there (omega arith));
     release = λ i h. omega (arith, begins i (omega arith), held i h);
   }
+
+-- the goals of a plan hold together
+pub together : (l : Loaded) (q : Ask) → InOrder (problem l q) → (rows : List ℕ) → Exact (problem l q) (in_rows rows) → (bound : ℕ) → (FitIn rows q.goals 64 → ⊥) → NoPlan (problem l q) bound
+together l q ok rows x bound n z v = n (λ r m g u h. states (problem l q) ok bound z v (in_rows rows) x.closed bound r u (v.reached r g) (v.reached u h))
 
 -- ── the table with e-deletions ──
 
@@ -109,10 +113,6 @@ module _ (l : Loaded) (q : Ask) (ok : InOrder (problem l q)) (rows : List ℕ) (
   closed : Closed K (in_rows rows)
   closed = subst (λ (Z : Problem). Closed Z (in_rows rows)) (sym is_strong) (closed_alike (strong P D) P strong_order alike (λ i p h y. (words i p h).1 (inl y)) (in_rows rows) x.closed)
 
-  -- the goals of a plan hold together
-  together : (bound : ℕ) → (FitIn rows q.goals 64 → ⊥) → NoPlan P bound
-  together bound n z v = n (λ r m g u h. states P ok bound z v (in_rows rows) x.closed bound r u (v.reached r g) (v.reached u h))
-
   same_plans : (bound : ℕ) (s : Plan) → Valid P bound s ↔ Valid K bound s
   same_plans bound s = subst (λ (Z : Problem). Valid P bound s ↔ Valid Z bound s) (sym is_strong) (same_valid P ok (in_rows rows) x D words bound s)
 
@@ -130,14 +130,13 @@ module _ (l : Loaded) (q : Ask) (ok : InOrder (problem l q)) (rows : List ℕ) (
   pub released : Released l q → Released k q
   released r i h = omega (arith, ap (λ (a : Action). a.release) (rest i), r i h)
 
-  pub sets_out : (base est L M N : List ℕ) (goals : Bool) → q.jobs ≤ 24 → Released l q → Estimates K (entry base) → AllWait rows k base est 24 → Lists k q est L 228 → WaitsPut K q.jobs L M
-      → LeadsPut l q 24 M N → Decides goals (FitIn rows q.goals 64) → SetsOut l q (record { tables = N; goals = goals })
-  sets_out base est L M N goals few r e w t p f g = record {
+  pub sets_out : (base est L M N : List ℕ) → q.jobs ≤ 24 → Released l q → Estimates K (entry base) → AllWait rows k base est 24 → Lists k q est L 228 → WaitsPut K q.jobs L M
+      → LeadsPut l q 24 M N → SearchedFor l q N
+  sets_out base est L M N few r e w t p f = record {
     searched = K;
     jobs = refl;
     listed = listed_of k q few order est N (λ i h. subst (λ (x : ℕ). Stands k q est i x) (sym (waits.old i h)) (t i h)) early held (waits.apart order) (λ a h m. leads_same a (led_of N a) (f.leads a h m));
     same = same_plans;
-    hopeless = λ h bound. together bound (g.nay h);
   }
     where
       waits : WaitsPut K q.jobs L N

@@ -1,6 +1,6 @@
 -- What the contracts of the lists that the search reads, and of its first state, cite.
 -- Assumes nothing.
-use Rattle.std.specs.Prelude.{◌≡◌, ◌↔◌, Bool, true, false, cond, List, ℕ, ◌+◌, ◌*◌, ◌-◌, ◌%◌, ◌≤◌, ◌<◌, ◌^◌, T, get_or}
+use Rattle.std.specs.Prelude.{◌≡◌, ◌↔◌, false, List, ℕ, ◌+◌, ◌*◌, ◌-◌, ◌%◌, ◌≤◌, ◌<◌, ◌^◌, T, get_or, Option, MatchOption}
 use Rattle.facts.specs.Facts.{has}
 use Rattle.rules.specs.Table.{Problem}
 use Rattle.rules.specs.Premises.{InOrder}
@@ -17,17 +17,12 @@ use Rattle.states.specs.State.{Search, Good, Fits}
 use Rattle.cells.specs.View.{view}
 use Rattle.lent.specs.Lent.{Cols, wait_of, led_of, Spacing, Listed, Lent}
 use Rattle.turns.specs.Checked.{Leader}
-use Rattle.outset.specs.declared.Outset.{Outset}
 
 -- ── words of jobs ──
 
--- what the job deletes, or, if so, what it adds
-abbrev pub effect_of : Action → (adds : Bool) → ℕ
-effect_of a adds = cond adds a.additions a.deletions
-
--- j is a job of the table and deletes fact p, or, if so, adds it
-abbrev pub Among : Loaded → Ask → (adds : Bool) (p j : ℕ) → Type 0
-Among l q adds p j = (j < q.jobs) × T (has (effect_of (job_at l j) adds) p)
+-- j is a job of the table, and fact p is in its word
+abbrev pub Among : Loaded → Ask → (word : Action → ℕ) (p j : ℕ) → Type 0
+Among l q word p j = (j < q.jobs) × T (has (word (job_at l j)) p)
 
 -- b is a job of the table that interferes with a
 abbrev pub Hit : Loaded → Ask → (a b : ℕ) → Type 0
@@ -46,8 +41,8 @@ Stands l q est i x =
     Upto i 24 (x ≡ (job_at l i).conditions)
     (Upto i 25 (x ≡ q.goals)
     (Upto i 26 (x ≡ q.opening)
-    (Upto i 90 (Cols (Among l q true (i - 26)) (x % 2 ^ 32) 24)
-    (Upto i 154 (Cols (Among l q false (i - 90)) (x % 2 ^ 32) 24)
+    (Upto i 90 (Cols (Among l q (λ a. a.additions) (i - 26)) (x % 2 ^ 32) 24)
+    (Upto i 154 (Cols (Among l q (λ a. a.deletions) (i - 90)) (x % 2 ^ 32) 24)
     (Upto i 178 (x % 2 ^ 32 ≡ (job_at l (i - 154)).duration + (problem l q).gap)
     (Upto i 202 (Cols (Hit l q (i - 178)) (x % 2 ^ 32) 24)
     (Upto i 226 (x % 2 ^ 32 ≡ get_or est (i - 202) 0)
@@ -94,10 +89,13 @@ FitsAll P s = (Q : Plan) → Good P Q → Fits P Q (view s)
 abbrev pub ListedPlan : List ℕ → Search → Plan → Type 0
 ListedPlan L P Q = Lent L P × Good P Q
 
--- what is searched for the table l: lists of a problem that has the same valid plans; no plan where the goals are not pairwise reachable
-pub record SetsOut (l : Loaded) (q : Ask) (r : Outset) : Type 0 where
+-- what is searched for the table l: lists of a problem that has the same valid plans
+pub record SearchedFor (l : Loaded) (q : Ask) (tables : List ℕ) : Type 0 where
   pub searched : Problem
   pub jobs : searched.count ≡ q.jobs
-  pub listed : Listed r.tables searched
+  pub listed : Listed tables searched
   pub same : (bound : ℕ) (s : Plan) → Valid (problem l q) bound s ↔ Valid searched bound s
-  pub hopeless : r.goals ≡ false → (bound : ℕ) → NoPlan (problem l q) bound
+
+-- that, or nothing where no plan is valid
+abbrev pub SetsOut : Loaded → Ask → Option (List ℕ) → Type 0
+SetsOut l q found = MatchOption found ((bound : ℕ) → NoPlan (problem l q) bound) (SearchedFor l q)

@@ -3,100 +3,35 @@
 #![tactic(auto)]
 
 ghost use Rattle.std.specs.Prelude.{◌≡◌, ◌+◌, ◌≤◌, ◌<◌, ◌^◌};
-ghost use Rattle.facts.specs.Words.{Decides};
 ghost use Rattle.rules.specs.Premises.{InOrder};
 ghost use Rattle.tables.specs.Tables.{problem};
 ghost use Rattle.tables.specs.Steps.{Released};
 ghost use Rattle.states.specs.State.{Search};
 ghost use Rattle.cells.specs.View.{Says};
-ghost use Rattle.lent.specs.Lent.{Cols, Lent};
-ghost use Rattle.turns.specs.Checked.{Follower};
-ghost use Rattle.outset.specs.Outset.{effect_of, Among, Hit, Stands, Lists, RowPut, WaitsPut, LeadsPut, Waits, AllWait, FitsAll, ListedPlan, SetsOut};
+ghost use Rattle.lent.specs.Lent.{Lent};
+ghost use Rattle.turns.specs.Checked.{Leader};
+ghost use Rattle.outset.specs.Outset.{Upto, Stands, Lists, RowPut, WaitsPut, LeadsPut, Waits, AllWait, FitsAll, ListedPlan, SetsOut};
 
 use cells::State;
 use lent::Tables;
 use reach::PairRows;
+use std::array;
 use tables::{Action, Ask, Loaded};
-
-// What the search reads, and whether the goals are pairwise reachable.
-#[derive(Clone, Copy)]
-pub struct Outset {
-    pub tables: Tables,
-    pub goals: bool,
-}
-
-// What the job deletes, or, if so, what it adds.
-fn effect(a: Action, adds: bool) -> u64
-    ensures { result ≡ effect_of a adds }
-{
-    if adds {
-        return a.additions;
-    }
-    a.deletions
-}
-
-// Job j is in the table and deletes fact p, or, if so, adds it.
-fn job_has(l: Loaded, q: Ask, adds: bool, j: usize, p: usize) -> bool
-    requires { (j < 24) × (p < 64) }
-    ensures { Decides result (Among l q adds p j) }
-{
-    if q.jobs <= j {
-        return false;
-    }
-    facts::has(effect(l.jobs[j], adds), p)
-}
-
-// The jobs that delete fact p, or, if so, add it.
-fn jobs_with(l: Loaded, q: Ask, adds: bool, p: usize) -> u32
-    requires { p < 64 }
-    ensures { Cols (Among l q adds p) result 24 }
-{
-    let mut w: u32 = 0;
-    for j in 0..24 {
-        let hit = job_has(l, q, adds, j, p);
-        w = jobs::with_if(w, j, hit);
-    }
-    w
-}
-
-// Job b is in the table and interferes with a.
-fn job_hits(l: Loaded, q: Ask, a: usize, b: usize) -> bool
-    requires { (a < 24) × (b < 24) }
-    ensures { Decides result (Hit l q a b) }
-{
-    if q.jobs <= b {
-        return false;
-    }
-    interference::interferes(l, a, b)
-}
-
-// The jobs that interfere with a.
-fn hits_of(l: Loaded, q: Ask, a: usize) -> u32
-    requires { a < 24 }
-    ensures { Cols (Hit l q a) result 24 }
-{
-    let mut w: u32 = 0;
-    for b in 0..24 {
-        let hit = job_hits(l, q, a, b);
-        w = jobs::with_if(w, b, hit);
-    }
-    w
-}
 
 // A duration with the gap behind it.
 fn step(duration: u16, gap: u16) -> u64
     ensures { (result ≡ duration + gap) × (result < 2 ^ 32) }
 {
-    duration as u64 + gap as u64
+    u64::from(duration) + u64::from(gap)
 }
 
-// What stands at place i of the search's table; waits, leads and bound are put in later.
-fn entry(l: Loaded, q: Ask, est: [u16; 24], i: usize) -> u64
-    ensures { Stands l q est i result }
+// What stands at place i of the search's table; 0 for waits, leads and bound, which are put in later.
+fn entry(l: &Loaded, q: &Ask, est: &[u16; 24], i: usize) -> u64
+    ensures { Upto i 228 (Stands l.now q.now est.now i result) (result ≡ 0) }
 {
+    let n = q.jobs.min(24);
     if i < 24 {
-        let a = l.jobs[i];
-        return a.conditions;
+        return l.jobs[i].conditions;
     }
     if i < 25 {
         return q.goals;
@@ -105,45 +40,47 @@ fn entry(l: Loaded, q: Ask, est: [u16; 24], i: usize) -> u64
         return q.opening;
     }
     if i < 90 {
-        return jobs_with(l, q, true, i - 26) as u64;
+        return u64::from(jobs::those(n, |j| facts::has(l.jobs[j].additions, i - 26)));
     }
     if i < 154 {
-        return jobs_with(l, q, false, i - 90) as u64;
+        return u64::from(jobs::those(n, |j| facts::has(l.jobs[j].deletions, i - 90)));
     }
     if i < 178 {
-        let a = l.jobs[i - 154];
-        return step(a.duration, tables::gap(q));
+        return step(l.jobs[i - 154].duration, tables::gap(*q));
     }
     if i < 202 {
-        return hits_of(l, q, i - 178) as u64;
+        return u64::from(jobs::those(n, |b| interference::interferes(*l, i - 178, b)));
     }
     if i < 226 {
-        return est[i - 202] as u64;
+        return u64::from(est[i - 202]);
     }
     if i < 227 {
         return q.jobs as u64;
     }
-    tables::gap(q) as u64
+    if i < 228 {
+        return u64::from(tables::gap(*q));
+    }
+    0
 }
 
 // The table of the search, but for the waits, the leads and the bound.
 fn listed(l: Loaded, q: Ask, est: [u16; 24]) -> Tables
     ensures { Lists l q est result 228 }
 {
-    let mut t = [0u64; 853];
-    for i in 0..228 {
-        t[i] = entry(l, q, est, i);
-    }
-    t
+    array::from_fn(
+        |i|
+            ensures { Upto i 228 (Stands l q est i result) (result ≡ 0) }
+        { entry(&l, &q, &est, i) },
+    )
 }
 
-// The waits of job a.
+// The waits of job a: a loop, as the two below, since the table is written in place.
 fn put_row(t: &mut Tables, a: usize, row: [u16; 25])
     requires { a < 24 }
     ensures { RowPut row a 25 t.old t.new }
 {
     for b in 0..25 {
-        lent::put_wait(t, a, b, row[b] as u64);
+        lent::put_wait(t, a, b, u64::from(row[b]));
     }
 }
 
@@ -160,15 +97,16 @@ fn put_waits(t: &mut Tables, l: Loaded, q: Ask)
     }
 }
 
-// The job that job m leads, or 24.
+// The job that job m leads, or 24 for none, since the table of the search holds numbers.
 fn follower(l: Loaded, q: Ask, m: usize) -> usize
     requires { q.jobs ≤ 24 }
-    ensures { Follower l q m result }
+    ensures within { result ≤ 24 }
+    ensures led { result < 24 → Leader l q m result }
 {
     if q.jobs <= m {
         return 24;
     }
-    turns::led(l, q, m)
+    turns::led(l, q, m).unwrap_or(24)
 }
 
 // Who leads whom.
@@ -197,7 +135,7 @@ fn root_job(s: &mut State, j: usize, t: &Tables)
         return;
     }
     orders::till(s, j, bound - rest);
-    orders::from(s, j, jobs::wide(lent::est(t, j)));
+    orders::from(s, j, u64::from(lent::est(t, j)));
 }
 
 // The state that every valid plan within the bound fits.
@@ -215,35 +153,29 @@ pub fn root(t: &Tables) -> State
 fn waits(s: PairRows, c: u64, est: u16) -> u16
     ensures { Waits s.rows c est result }
 {
-    if reach::fits(s, c) {
-        return est;
-    }
-    65535
+    if reach::fits(s, c) { est } else { 65535 }
 }
 
 // The same for all jobs.
 fn all_wait(s: PairRows, l: Loaded, est: [u16; 24]) -> [u16; 24]
     ensures { AllWait s.rows l est result 24 }
 {
-    let mut t = [0u16; 24];
-    for j in 0..24 {
-        let a = l.jobs[j];
-        t[j] = waits(s, a.conditions, est[j]);
-    }
-    t
+    array::from_fn(|j| waits(s, l.jobs[j].conditions, est[j]))
 }
 
-// What is searched for the table: it has the same plans.
-pub fn set_out(l: Loaded, q: Ask) -> Outset
+// What is searched for the table: it has the same plans. None where the goals are not pairwise reachable: there is no plan.
+pub fn set_out(l: Loaded, q: Ask) -> Option<Tables>
     requires { (q.jobs ≤ 24) × InOrder (problem l q) × Released l q }
     ensures { SetsOut l q result }
 {
     let s = reach::reachable(l, q);
-    let goals = reach::fits(s, q.goals);
+    if !reach::fits(s, q.goals) {
+        return None;
+    }
     let table = reach::e_table(l, q.jobs, s);
     let est = all_wait(s, table, estimates::estimate_all(table, q));
     let mut tables = listed(table, q, est);
     put_waits(&mut tables, table, q);
     put_leads(&mut tables, l, q);
-    Outset { tables, goals }
+    Some(tables)
 }

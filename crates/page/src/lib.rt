@@ -2,7 +2,7 @@
 
 #![tactic(auto)]
 
-ghost use Rattle.std.specs.Prelude.{◌+◌, ◌*◌, ◌≤◌, ◌<◌, eqb, length};
+ghost use Rattle.std.specs.Prelude.{◌≡◌, ◌+◌, ◌*◌, ◌≤◌, ◌<◌, eqb, length};
 ghost use Rattle.rules.specs.Plans.{starts};
 ghost use Rattle.rules.specs.Premises.{InOrder};
 ghost use Rattle.tables.specs.Tables.{job_at, problem};
@@ -13,18 +13,25 @@ ghost use Rattle.page.specs.Page.{plan_line, job_lines, pair_lines, plan_text, S
 
 use tables::{Answer, Ask, Loaded};
 
+// When a job that starts then is over.
+fn finish(start: u16, duration: u16) -> u32
+    ensures { result ≡ start + duration }
+{
+    u32::from(start) + u32::from(duration)
+}
+
 // The line of job j, where it starts at t.
 fn put_start(l: Loaded, s: &[u16], t: usize, j: usize, at: usize, out: &mut [u8]) -> usize
     requires { (j < 24) × (j < length s.now) × (at + 18 ≤ length out.old) }
     ensures { Lays 18 (text_if (eqb (starts s.now j) t) (job_line (starts s.now j) (starts s.now j + (job_at l j).duration) j)) at out.old out.new result }
 {
-    let start = entries::wide(s[j]);
-    if start as usize != t {
+    let start = s[j];
+    if usize::from(start) != t {
         return at;
     }
     let a = l.jobs[j];
-    let end = start + entries::wide(a.duration);
-    lines::put_job(start, end, j as u32, at, out)
+    let end = finish(start, a.duration);
+    lines::put_job(u32::from(start), end, j as u32, at, out)
 }
 
 // The jobs that start at t, by number.

@@ -7,6 +7,23 @@ use std::io;
 use std::io::{Input, Print};
 use tables::{Answer, Ask, Loaded};
 
+// What is asked for: the plan's text, or a verdict on the text of one.
+#[derive(Clone, Copy)]
+enum Asked {
+    Write,
+    Check,
+}
+
+impl From<u8> for Asked {
+    fn from(byte: u8) -> Asked {
+        if byte == 0 {
+            Asked::Write
+        } else {
+            Asked::Check
+        }
+    }
+}
+
 // Prints a refusal as bench-plan does.
 fn refuse<R: Print>(rt: &R, a: Answer) -> io::Result<()> {
     println!(rt; "refused {} {}", a.number, a.place)
@@ -56,7 +73,7 @@ fn check<R: Print>(
 // Does what is asked of a job file with names.
 fn exchange<R: Print>(
     rt: &R,
-    asked: u8,
+    asked: Asked,
     file: &[u8],
     names: &[u8],
     text: &[u8],
@@ -69,16 +86,16 @@ fn exchange<R: Print>(
     }
     let mut space = [65535u16; 24];
     let starts: &mut [u16] = &mut space;
-    if asked == 0 {
-        return write(rt, read.table, read.ask, names, starts, out);
+    match asked {
+        Asked::Write => write(rt, read.table, read.ask, names, starts, out),
+        Asked::Check => check(rt, read.table, read.ask, names, text, starts),
     }
-    check(rt, read.table, read.ask, names, text, starts)
 }
 
 // Takes apart what stands behind the file; a length that is more than there is means all of it.
 fn with_file<R: Print>(
     rt: &R,
-    asked: u8,
+    asked: Asked,
     told: u32,
     file: &[u8],
     rest: &[u8],
@@ -97,7 +114,7 @@ fn take_apart<R: Print>(rt: &R, given: &[u8], out: &mut [u8]) -> io::Result<()> 
     let names = bytes_le::number(given, 5, 4) as u32;
     let rest = &given[9..];
     let n = (file as usize).min(rest.len());
-    with_file(rt, given[0], names, &rest[..n], &rest[n..], out)
+    with_file(rt, given[0].into(), names, &rest[..n], &rest[n..], out)
 }
 
 // Reads as much as there is room for.

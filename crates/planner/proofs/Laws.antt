@@ -87,9 +87,6 @@ module _ {L base : List ℕ} {k : ℕ} where
   pub low_next : {t : ℕ} {q new : List ℕ} {r : Bool} → LowerOk (Lent L) base k q → Tells (Lent L) base (Earlier k t) q new r → r ≡ true → LowerOk (Lent L) base k new
   low_next b d e = record { begins = begins_next b.begins d e; there = λ P l. (d.fine e P l).0 }
 
-  pub low_done : {q new : List ℕ} {r : Bool} → LowerOk (Lent L) base k q → Tells (Lent L) base (Earlier k (plan_of q k)) q new r → r ≡ false → Lowered (Lent L) base k new
-  low_done {q} {new} b d e = subst (λ (z : List ℕ). Lowered (Lent L) base k z) (sym (d.same e)) (record { begins = b.begins; there = b.there; least = λ P l Q v h. d.none e P l Q v h })
-
   -- the pruned base takes the base's place
   pub begins_pruned : {q r : List ℕ} → BeginsSo (Lent L) k base q → Prunes (Lent L) base r → BeginsSo (Lent L) k r q
   begins_pruned {q} {r} b d = record {

@@ -38,7 +38,7 @@ fn try_sooner(base: &State, k: usize, t: &Tables, out: &mut [u16; 24]) -> bool
     requires { (k < 24) × (length out.old ≡ 24) × Some (Lent t.now) }
     ensures { Tells (Lent t.now) base.now (Earlier k (plan_of out.old k)) out.old out.new result }
 {
-    let x = start_of(out, k) as u32;
+    let x = u32::from(start_of(out, k));
     if x <= cells::lo(base, k) {
         return false;
     }
@@ -53,11 +53,7 @@ fn lower(base: &State, k: usize, t: &Tables, out: &mut [u16; 24])
     requires { LowerOk (Lent t.now) base.now k out.old × (k < 24) × Some (Lent t.now) }
     ensures { Lowered (Lent t.now) base.now k out.new }
 {
-    loop {
-        if !try_sooner(base, k, t, out) {
-            return;
-        }
-    }
+    while try_sooner(base, k, t, out) {}
 }
 
 // Job k starts at x.
@@ -91,13 +87,13 @@ fn settle_job(base: &mut State, k: usize, t: &Tables, out: &mut [u16; 24])
         cells::put_barred(base, k);
         return;
     }
-    sharpen(base, k, t, x as u32);
+    sharpen(base, k, t, u32::from(x));
     if try_without(base, k, t, out) {
         cells::put_barred(base, k);
         return;
     }
     lower(base, k, t, out);
-    fix(base, k, start_of(out, k) as u32);
+    fix(base, k, u32::from(start_of(out, k)));
 }
 
 // The first plan, from a state that it fits and some plan.

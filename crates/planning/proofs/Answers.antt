@@ -1,7 +1,7 @@
 -- What planning answers, from what the search found.
 -- Assumes nothing.
 use mathlib.Core.Path.{◌≡◌, refl, ◌∙◌, subst}
-use mathlib.Core.Logic.{inl, inr, ◌≢◌}
+use mathlib.Core.Logic.{inl, inr}
 use mathlib.Core.Bool.{Bool, true}
 use mathlib.Core.List.{List}
 use Prim.Native.Nat.{ℕ, ◌≤◌, min}
@@ -24,7 +24,7 @@ use Rattle.tables.proofs.Calls.{call_checks_lem}
 use Rattle.tables.proofs.Fills.{fills_fault, fills_refused, fills_behind}
 use Rattle.leaves.specs.Leaf.{plan_of}
 use Rattle.entries.specs.Entries.{entry}
-use Rattle.planning.specs.Derived.{InReach, PlanAt, LeastOf}
+use Rattle.planning.specs.Derived.{InReach, PlanAt, LeastAt}
 use Rattle.planning.specs.Planning.{planning_checks, PlansWithin, BoundsWithin}
 
 -- ── enough time ──
@@ -85,7 +85,7 @@ module _ (l : Loaded) (q : Ask) (old : List ℕ) {f : Answer}
     bounds_none e n = fills_behind (call_checks_lem (ltb (length old) q.jobs) q.bound l q) _ 65535 q.jobs old j.says z
         (refused 10 0) 65535 (λ i. 0) (inr (refl, (refl, none_of n))) e refl
 
-    pub bounds_found : {r : Answer} {b : ℕ} {st new : List ℕ} → r ≡ answer_of accepted b 0 → new ≡ filled (entry st) q.jobs old → LeastOf (problem l q) t st b → b ≢ 65535
+    pub bounds_found : {r : Answer} {b : ℕ} {st new : List ℕ} → r ≡ answer_of accepted b 0 → new ≡ filled (entry st) q.jobs old → LeastAt (problem l q) t st b
         → BoundsWithin l q old new r
-    bounds_found {b = b} {st = st} e w d y = fills_behind (call_checks_lem (ltb (length old) q.jobs) q.bound l q) _ 65535 q.jobs old j.says z accepted b (plan_of st)
-        (inl (refl, least_up l q ok.order ok.within b (plan_of st) (subst (λ (x : ℕ). LeastBound (problem l q) x b (plan_of st)) h (d.found y)))) e (starts_filled st (d.size y) w)
+    bounds_found {b = b} {st = st} e w d = fills_behind (call_checks_lem (ltb (length old) q.jobs) q.bound l q) _ 65535 q.jobs old j.says z accepted b (plan_of st)
+        (inl (refl, least_up l q ok.order ok.within b (plan_of st) (subst (λ (x : ℕ). LeastBound (problem l q) x b (plan_of st)) h d.found))) e (starts_filled st d.size w)

@@ -1,9 +1,10 @@
 -- Laws of planning within a bound.
 -- Assumes nothing.
-use mathlib.Core.Path.{◌≡◌, refl, sym, ap, subst}
+use mathlib.Core.Path.{◌≡◌, sym, ap, subst}
 use mathlib.Core.Bool.{Bool, true, false, true≢false}
 use mathlib.Core.List.{List}
-use Prim.Native.Nat.{ℕ, ◌+◌, ◌≤◌, ◌<◌, max}
+use Rattle.std.specs.Prelude.{Option, Some, None}
+use Prim.Native.Nat.{ℕ, ◌+◌, ◌≤◌, max}
 use native.Mathlib.Omega.{arith}
 use native.Mathlib.Numerals.{add-one}
 use lib.Dec.{T}
@@ -22,11 +23,10 @@ use Rattle.lent.specs.Lent.{Listed, Lent}
 use Rattle.lent.proofs.Laws.{rebound_back}
 use Rattle.leaves.specs.Leaf.{plan_of}
 use Rattle.planner.specs.Planner.{BeginsSo, FirstPlanIs}
-use Rattle.outset.specs.Outset.{FitsAll, SetsOut}
-use Rattle.outset.specs.declared.Outset.{Outset}
+use Rattle.outset.specs.Outset.{FitsAll, SearchedFor}
 use Rattle.bounds.specs.Bounds.{Served, SomeAt, Bracketed}
 use Rattle.bounds.proofs.Laws.{lent_at}
-use Rattle.planning.specs.Derived.{PlanAt, FirstAt, LeastOf}
+use Rattle.planning.specs.Derived.{PlanAt, FirstAt, LeastAt, LeastOf}
 
 -- ── one bound ──
 
@@ -43,10 +43,6 @@ module _ {L K : List ℕ} {bound x : ℕ} (d : Sets L 852 x K) (z : x ≡ bound)
   pub first_at_lem : {q : List ℕ} → FirstPlanIs (Lent K) q → FirstAt L bound q
   first_at_lem a = record { first = λ P t. a.plan _ (lent_at d z v P t); size = a.size }
 
--- there is no plan, so no bound is the least
-pub least_not : {P : Problem} {top : ℕ} {starts : List ℕ} → NoPlan P top → LeastOf P top starts 65535
-least_not n = record { found = λ x. absurd (x refl); size = λ x. absurd (x refl); none = λ x. n }
-
 pub plan_none : {P : Problem} {bound : ℕ} {starts : List ℕ} → NoPlan P bound → PlanAt P bound starts false
 plan_none n = record { first = λ h. absurd (subst T (sym h) tt); size = λ h. absurd (subst T (sym h) tt); none = λ h. n }
 
@@ -62,22 +58,19 @@ enough_of l q e z m = rw (e, z, m)
 
 -- ── what is searched has the table's plans ──
 
-module _ {l : Loaded} {q : Ask} {o : Outset} (x : SetsOut l q o) where
+module _ {l : Loaded} {q : Ask} {o : List ℕ} (x : SearchedFor l q o) where
   none_same : (bound : ℕ) → NoPlan x.searched bound → NoPlan (problem l q) bound
   none_same bound n z v = n z ((x.same bound z).0 v)
 
   first_same : (bound : ℕ) (s : Plan) → First x.searched bound s → First (problem l q) bound s
   first_same bound s f = record { ok = (x.same bound s).1 f.ok; none = λ z v b. f.none z ((x.same bound z).0 v) (record { at = b.at; below = omega (arith, b.below, x.jobs); same = b.same; less = b.less }) }
 
-  -- where the goals can't hold together there is no plan
-  pub plan_hopeless : {bound : ℕ} {starts : List ℕ} → o.goals ≡ false → PlanAt (problem l q) bound starts false
-  plan_hopeless {bound} e = plan_none (x.hopeless e bound)
-
   pub plan_same : {bound : ℕ} {starts : List ℕ} {r : Bool} → PlanAt x.searched bound starts r → PlanAt (problem l q) bound starts r
   plan_same {bound} p = record { first = λ e. first_same bound _ (p.first e); size = p.size; none = λ e. none_same bound (p.none e) }
 
-  pub least_same : {top b : ℕ} {starts : List ℕ} → LeastOf x.searched top starts b → LeastOf (problem l q) top starts b
-  least_same {top} p = record { found = λ e. bound (p.found e); size = p.size; none = λ e. none_same top (p.none e) }
+  pub least_same : (top : ℕ) (starts : List ℕ) (found : Option ℕ) → LeastOf x.searched top starts found → LeastOf (problem l q) top starts found
+  least_same top starts None n = none_same top n
+  least_same top starts (Some v) p = record { found = bound p.found; size = p.size }
     where
       bound : {b : ℕ} {s : Plan} → LeastBound x.searched top b s → LeastBound (problem l q) top b s
       bound {b} {s} f = record { within = f.within; first = first_same b s f.first; none = λ c z m v. f.none c z m ((x.same c z).0 v) }
@@ -93,9 +86,5 @@ unfolding most
 most_next f j = ap (most f) (sym (add-one j))
 
 -- the least bound with the first plan at it
-pub least_found : {L starts best : List ℕ} {top b : ℕ} → Bracketed L b b starts → b ≤ top → top < 65535 → FirstAt L b best → (P : Problem) → Listed L P → LeastOf P top best b
-least_found w l s f P t = record {
-  found = λ x. record { within = l; first = f.first P t; none = λ c z m g. w.none P t c m z g };
-  size = λ x. f.size;
-  none = λ x. absurd (omega arith);
-}
+pub least_found : {L starts best : List ℕ} {top b : ℕ} → Bracketed L b b starts → b ≤ top → FirstAt L b best → (P : Problem) → Listed L P → LeastAt P top best b
+least_found w l f P t = record { found = record { within = l; first = f.first P t; none = λ c z m g. w.none P t c m z g }; size = f.size }

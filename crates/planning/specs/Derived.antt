@@ -1,6 +1,6 @@
 -- What the contracts of planning within a bound cite.
 -- Assumes nothing.
-use Rattle.std.specs.Prelude.{◌≡◌, ◌≢◌, Bool, true, false, List, ℕ, ◌≤◌, ◌<◌, length}
+use Rattle.std.specs.Prelude.{◌≡◌, Bool, true, false, List, ℕ, ◌≤◌, ◌<◌, length, Option, MatchOption}
 use Rattle.rules.specs.Table.{Problem}
 use Rattle.rules.specs.Premises.{InOrder}
 use Rattle.rules.specs.Order.{First, LeastBound, NoPlan}
@@ -29,8 +29,11 @@ pub record FirstAt (L : List ℕ) (bound : ℕ) (starts : List ℕ) : Type 0 whe
   pub first : (P : Problem) → Listed L P → First P bound (plan_of starts)
   pub size : length starts ≡ 24
 
--- the least bound up to top with the first plan at it, or 65,535: there is no plan
-pub record LeastOf (P : Problem) (top : ℕ) (starts : List ℕ) (b : ℕ) : Type 0 where
-  pub found : b ≢ 65535 → LeastBound P top b (plan_of starts)
-  pub size : b ≢ 65535 → length starts ≡ 24
-  pub none : b ≡ 65535 → NoPlan P top
+-- the bound b is the least up to top, and the starts are the first plan at it
+pub record LeastAt (P : Problem) (top : ℕ) (starts : List ℕ) (b : ℕ) : Type 0 where
+  pub found : LeastBound P top b (plan_of starts)
+  pub size : length starts ≡ 24
+
+-- the bound that was found is that one; or none was, and there is no plan
+abbrev pub LeastOf : Problem → (top : ℕ) → List ℕ → Option ℕ → Type 0
+LeastOf P top starts found = MatchOption found (NoPlan P top) (LeastAt P top starts)

@@ -20,7 +20,7 @@ fn first_at(t: &mut Tables, bound: u16, out: &mut [u16; 24])
     requires { Served t.old bound × SomeAt t.old bound out.old }
     ensures { FirstAt t.old bound out.new }
 {
-    lent::put_bound(t, entries::wide(bound));
+    lent::put_bound(t, u32::from(bound));
     let mut s = outset::root(t);
     planner::first(&mut s, t, out);
 }
@@ -33,9 +33,16 @@ fn last_release(l: Loaded, n: usize) -> u16
     let mut last: u16 = 0;
     for j in 0..n {
         let a = l.jobs[j];
-        last = entries::higher(a.release, last);
+        last = last.max(a.release);
     }
     last
+}
+
+// A duration with the gap behind it.
+fn span(duration: u16, gap: u16) -> u32
+    ensures { (result ≡ duration + gap) × (result ≤ 131070) }
+{
+    u32::from(duration) + u32::from(gap)
 }
 
 // The time `from` and the durations of the jobs below n, each with a gap.
@@ -43,10 +50,10 @@ fn all_durations(l: Loaded, n: usize, from: u16, gap: u16) -> u32
     requires { n ≤ 24 }
     ensures { result ≡ from + sum (λ a. (job_at l a).duration + gap) n }
 {
-    let mut all = entries::wide(from);
+    let mut all = u32::from(from);
     for j in 0..n {
         let a = l.jobs[j];
-        all = all + entries::wide(a.duration) + entries::wide(gap);
+        all += span(a.duration, gap);
     }
     all
 }
@@ -57,24 +64,21 @@ fn enough(l: Loaded, q: Ask) -> u16
     ensures { result ≡ min q.bound (enough_time (problem l q)) }
 {
     let all = all_durations(l, q.jobs, last_release(l, q.jobs), tables::gap(q));
-    let bound = q.bound;
-    if all < entries::wide(bound) {
-        return all as u16;
-    }
-    bound
+    all.min(u32::from(q.bound)) as u16
 }
 
-// The least bound up to top, with the first plan at it; 65,535 where there is none.
-fn least_of(t: &mut Tables, top: u16, out: &mut [u16; 24]) -> u16
+// The least bound up to top, with the first plan at it; none where there is no plan.
+fn least_of(t: &mut Tables, top: u16, out: &mut [u16; 24]) -> Option<u16>
     requires { Served t.old top }
     ensures { (P : Problem) → Listed t.old P → LeastOf P top out.new result }
 {
-    let bound = bounds::least(t, top, out);
-    if bound == 65535 {
-        return 65535;
+    match bounds::least(t, top, out) {
+        Some(bound) => {
+            first_at(t, bound, out);
+            Some(bound)
+        }
+        None => None,
     }
-    first_at(t, bound, out);
-    bound
 }
 
 // The first plan within top.
@@ -82,11 +86,9 @@ fn first_within(l: Loaded, q: Ask, top: u16, out: &mut [u16; 24]) -> bool
     requires { InReach l q top }
     ensures { PlanAt (problem l q) top out.new result }
 {
-    let o = outset::set_out(l, q);
-    if !o.goals {
+    let Some(mut t) = outset::set_out(l, q) else {
         return false;
-    }
-    let mut t = o.tables;
+    };
     if !bounds::any_at(&mut t, top, out) {
         return false;
     }
@@ -95,15 +97,13 @@ fn first_within(l: Loaded, q: Ask, top: u16, out: &mut [u16; 24]) -> bool
 }
 
 // The least bound up to top, with the first plan at it.
-fn least_within(l: Loaded, q: Ask, top: u16, out: &mut [u16; 24]) -> u16
+fn least_within(l: Loaded, q: Ask, top: u16, out: &mut [u16; 24]) -> Option<u16>
     requires { InReach l q top }
     ensures { LeastOf (problem l q) top out.new result }
 {
-    let o = outset::set_out(l, q);
-    if !o.goals {
-        return 65535;
-    }
-    let mut t = o.tables;
+    let Some(mut t) = outset::set_out(l, q) else {
+        return None;
+    };
     least_of(&mut t, top, out)
 }
 
@@ -134,10 +134,11 @@ pub fn least_bound(l: Loaded, q: Ask, out: &mut [u16]) -> Answer
     }
     let top = enough(l, q);
     let mut starts = [65535u16; 24];
-    let bound = least_within(l, q, top, &mut starts);
-    if bound == 65535 {
-        return tables::refuse(10, 0, 65535);
+    match least_within(l, q, top, &mut starts) {
+        Some(bound) => {
+            entries::fill(out, starts, q.jobs);
+            tables::done(u32::from(bound))
+        }
+        None => tables::refuse(10, 0, 65535),
     }
-    entries::fill(out, starts, q.jobs);
-    tables::done(entries::wide(bound))
 }

@@ -1,18 +1,23 @@
 -- Letters, words and numbers at a place.
 -- Assumes nothing.
-use mathlib.Core.Path.{◌≡◌, refl, sym, ap, ap₂, ◌∙◌}
+use mathlib.Core.Path.{◌≡◌, refl, sym, subst, ap, ◌∙◌}
 use mathlib.Core.Bool.{Bool, true, false, not, ◌&&◌, ◌||◌}
 use mathlib.Core.List.{List}
 use Prim.Native.Nat.{ℕ, ◌+◌, ◌-◌, ◌*◌, ◌≤◌, ◌<◌, ◌^◌}
 use native.Mathlib.Omega.{arith}
 use native.Mathlib.Decide.{ℕ_discrete, dec_lt}
-use native.Mathlib.Nat.{pow-le-pow_right}
+use native.Mathlib.Nat.{pow-le-pow_right, zero-add}
 use native.Mathlib.Numerals.{add-one}
-use lib.Dec.{T, T_not, not_T, eqb, leb, ltb, le→leb, leb→le, eqb→eq, ltb→lt, lt→ltb}
+use lib.Dec.{T, T_not, not_T, eqb, ltb, eqb→eq, ltb→lt, lt→ltb}
 use lib.ListN.{length}
-use Rattle.facts.specs.Least.{least, any}
-use Rattle.facts.proofs.Bools.{same, and_l, and_r, and_of, or_l, chosen, unchosen, eqb_of, not_eqb, eqb_not, test_yes, test_no}
-use Rattle.facts.proofs.Least.{lowest, any_of, any_at}
+use Rattle.std.specs.Prelude.{Option, Some, None, MatchOption}
+use Rattle.std.specs.Bool.{MatchBool}
+use Rattle.std.specs.List.{AllWithin, HoldsAt, range_with_len}
+use Rattle.std.proofs.lemmas.List.FromFn.{length-range_with_len, get_or-range_with_len}
+use Rattle.facts.specs.Least.{any}
+use Rattle.facts.specs.Tests.{some_least}
+use Rattle.facts.proofs.Bools.{same, passes, and_l, and_of, or_l, chosen, unchosen, eqb_of, not_eqb, eqb_not, test_yes, test_no}
+use Rattle.facts.proofs.Least.{lowest, any_of, any_at, any_none, first_is, first_some, first_none}
 use Rattle.bytes_le.proofs.Numbers.{holds_more}
 use Rattle.facts.proofs.Tests.{passed, failed}
 use Rattle.facts.proofs.Lists.{get_d_past}
@@ -20,7 +25,6 @@ use Rattle.refusals.proofs.Refused.{Checks, at_checks}
 use Rattle.rules.specs.Table.{between}
 use Rattle.plantext.specs.Form.{letter_at, is_digit, is_zero, in_name, letters_from, same_letters, digits_end, point_at, zeros_end, number_end, number_at, value_of, value_at, name_at, name_length}
 use Rattle.plantext.specs.Names.{name_size, name_letter, is_named, misnamed, shares_name, names_check, job_named}
-use Rattle.plantext.specs.Steps.{kind_of}
 
 -- a letter that is not 0 stands within the text
 pub within_text : (text : List ℕ) (i : ℕ) → (letter_at text i ≡ 0 → ⊥) → i < length text
@@ -35,45 +39,9 @@ pub value_more : (text : List ℕ) (at k v d : ℕ) → v ≡ value_of text at k
 unfolding value_of
 value_more text at k v d e f = rw (add-one k, e, f) refl
 
--- ── tests ──
-
-pub from_no : (l m n : ℕ) → n < l → leb l n ≡ between l m n
-unfolding between
-from_no l m n h = same _ _ (λ x. absurd (omega (arith, leb→le l n x))) (and_l (leb l n) _)
-
-pub from_then : (l m n : ℕ) → l ≤ n → leb n m ≡ between l m n
-unfolding between
-from_then l m n h = same _ _ (and_of (leb l n) _ (le→leb l n h)) (and_r (leb l n) _)
-
-pub digit_kind : (c : ℕ) {r : Bool} → r ≡ between 48 57 c → r ≡ is_digit c
-unfolding is_digit
-digit_kind c e = e
-
-pub zero_kind : (c : ℕ) → eqb c 48 ≡ is_zero c
-unfolding is_zero
-zero_kind c = refl
-
 -- the letters that pass a test are no more than are looked at
 pub letters_most : (f : ℕ → Bool) (text : List ℕ) (at most : ℕ) → letters_from f text at most ≤ most
 letters_most f text at most = (lowest (λ i. not (f (letter_at text (at + i)))) most).within
-
--- ── kinds of letters ──
-
-pub kind_zero : (k c : ℕ) → k ≡ 0 → is_digit c ≡ kind_of k c
-kind_zero k c e = sym (chosen (eqb k 0) _ _ (eqb_of e))
-
-pub kind_one : (k c : ℕ) → k ≡ 1 → is_zero c ≡ kind_of k c
-kind_one k c e = sym (unchosen (eqb k 0) _ _ (λ h. omega (arith, eqb→eq k 0 h)) ∙ chosen (eqb k 1) _ _ (eqb_of e))
-
-pub kind_two : (k c : ℕ) → (k ≡ 0 → ⊥) → (k ≡ 1 → ⊥) → in_name c ≡ kind_of k c
-kind_two k c n m = sym (unchosen (eqb k 0) _ _ (λ h. n (eqb→eq k 0 h)) ∙ unchosen (eqb k 1) _ _ (λ h. m (eqb→eq k 1 h)))
-
--- what the test of a letter says of it
-pub unwanted : (k : ℕ) {r : Bool} {c d : ℕ} → r ≡ kind_of k c → c ≡ d → not r ≡ true → T (not (kind_of k d))
-unwanted k {d = d} e f h = not_T (kind_of k d) (failed (e ∙ ap (kind_of k) f) h)
-
-pub wanted : (k : ℕ) {r : Bool} {c d : ℕ} → r ≡ kind_of k c → c ≡ d → not r ≡ false → T (not (kind_of k d)) → ⊥
-wanted k {d = d} e f h x = T_not (kind_of k d) x (passed (e ∙ ap (kind_of k) f) h)
 
 -- ── the same letters ──
 
@@ -89,24 +57,25 @@ same_letters_lem f g n h i l = go (ℕ_discrete (f i) (g i))
     go (yes e) = e
     go (no x) = absurd (T_not (any (λ i. not (eqb (f i) (g i))) n) h (any_of (λ i. not (eqb (f i) (g i))) n i l (not_eqb (f i) (g i) x)))
 
--- as a loop finds it: letter i differs, or none does
-pub same_no : (f g : ℕ → ℕ) (n i : ℕ) → i < n → (f i ≡ g i → ⊥) → false ≡ same_letters f g n
-same_no f g n i l x = same false (same_letters f g n) (λ h. absurd h) (λ h. x (same_letters_lem f g n h i l))
-
-pub same_yes : (f g : ℕ → ℕ) (n : ℕ) → ((i : ℕ) → i < n → f i ≡ g i) → true ≡ same_letters f g n
-same_yes f g n h = same true (same_letters f g n) (λ x. letters_same f g n h) (λ x. tt)
+-- as a search finds it: none differs, or one does
+pub same_is : (f g : ℕ → ℕ) (n : ℕ) (r : Bool)
+    → (let all = range_with_len 0 n in MatchBool r (AllWithin (λ x. f x ≡ g x) all 0 (length all)) ((k : ℕ) × (k < length all) × HoldsAt (λ x. f x ≡ g x → ⊥) all k)) → r ≡ same_letters f g n
+same_is f g n true h = same true (same_letters f g n) (λ x. letters_same f g n (λ i l. rw (get_or-range_with_len 0 n i 0 l, zero-add) at (h i 0 (omega arith) (omega (arith, length-range_with_len 0 n))))) (λ x. tt)
+same_is f g n false (k, l, h) =
+    let m : k < n = omega (arith, length-range_with_len 0 n) in
+    same false (same_letters f g n) (λ x. absurd x) (λ x. (rw (get_or-range_with_len 0 n k 0 m, zero-add) at (h 0)) (same_letters_lem f g n x k m))
 
 -- ── numbers ──
 
-pub ends_digits : (text : List ℕ) (at : ℕ) {n : ℕ} → n ≡ letters_from (kind_of 0) text at 5 → at + n ≡ digits_end text at
+pub ends_digits : (text : List ℕ) (at : ℕ) {n : ℕ} → n ≡ letters_from is_digit text at 5 → at + n ≡ digits_end text at
 unfolding digits_end
 ends_digits text at e = ap (λ (k : ℕ). at + k) e
 
-pub ends_zeros : (text : List ℕ) (at : ℕ) {n : ℕ} → n ≡ letters_from (kind_of 1) text at (length text - at) → at + n ≡ zeros_end text at
+pub ends_zeros : (text : List ℕ) (at : ℕ) {n : ℕ} → n ≡ letters_from is_zero text at (length text - at) → at + n ≡ zeros_end text at
 unfolding zeros_end
 ends_zeros text at e = ap (λ (k : ℕ). at + k) e
 
-pub value_is : (text : List ℕ) (at : ℕ) {n v : ℕ} → n ≡ letters_from (kind_of 0) text at 5 → v ≡ value_of text at n → v ≡ value_at text at
+pub value_is : (text : List ℕ) (at : ℕ) {n v : ℕ} → n ≡ letters_from is_digit text at 5 → v ≡ value_of text at n → v ≡ value_at text at
 unfolding value_at
 value_is text at e f = f ∙ ap (value_of text at) e
 
@@ -163,11 +132,11 @@ value_small i v l h = let m : 256 ^ i ≤ 256 ^ 4 = pow-le-pow_right (omega arit
 
 -- ── lines ──
 
-pub name_length_is : (text : List ℕ) (at : ℕ) {p n : ℕ} → p ≡ name_at text at → n ≡ letters_from (kind_of 2) text p 17 → n ≡ name_length text at
+pub name_length_is : (text : List ℕ) (at : ℕ) {p n : ℕ} → p ≡ name_at text at → n ≡ letters_from in_name text p 17 → n ≡ name_length text at
 unfolding name_length
 name_length_is text at e f = f ∙ ap (λ (i : ℕ). letters_from in_name text i 17) e
 
-pub name_size_is : (names : List ℕ) (j : ℕ) {n : ℕ} → n ≡ letters_from (kind_of 2) names (16 * j) 16 → n ≡ name_size names j
+pub name_size_is : (names : List ℕ) (j : ℕ) {n : ℕ} → n ≡ letters_from in_name names (16 * j) 16 → n ≡ name_size names j
 unfolding name_size
 name_size_is names j e = e
 
@@ -201,9 +170,14 @@ misnamed_rest names j {n} e x h =
     or_no true b f = absurd (f tt)
     or_no false b f = refl
 
-pub job_named_is : (names : List ℕ) (n : ℕ) (text : List ℕ) (at : ℕ) {p k : ℕ} → p ≡ name_at text at → k ≡ name_length text at → least (λ j. is_named names j text p k) n ≡ job_named names n text at
+-- the job that the line names, as a search finds it, and where it finds none
+pub named_some : (names : List ℕ) (n : ℕ) (text : List ℕ) (at : ℕ) {r : Option ℕ} {j : ℕ} → r ≡ some_least (λ j. is_named names j text (name_at text at) (name_length text at)) n → r ≡ Some j → (j ≡ job_named names n text at) × (j < n)
 unfolding job_named
-job_named_is names n text at e f = ap₂ (λ (p k : ℕ). least (λ j. is_named names j text p k) n) e f
+named_some names n text at e h = first_some (λ j. is_named names j text (name_at text at) (name_length text at)) n e h
+
+pub named_none : (names : List ℕ) (n : ℕ) (text : List ℕ) (at : ℕ) {r : Option ℕ} → r ≡ some_least (λ j. is_named names j text (name_at text at) (name_length text at)) n → r ≡ None → n ≡ job_named names n text at
+unfolding job_named
+named_none names n text at e h = first_none (λ j. is_named names j text (name_at text at) (name_length text at)) n e h
 
 pub other_yes : (i j : ℕ) {r b : Bool} → (i ≡ j → ⊥) → r ≡ b → r ≡ (not (eqb i j) && b)
 other_yes i j {b = b} x e = e ∙ sym (and_yes (not (eqb i j)) b (not_eqb i j x))

@@ -2,69 +2,61 @@
 
 #![tactic(auto)]
 
-ghost use Rattle.std.specs.Prelude.{◌≡◌, true, not, ◌&&◌, ◌||◌, eqb, ◌+◌, ◌-◌, ◌*◌, ◌≤◌, ◌<◌, ◌^◌, length};
-ghost use Rattle.facts.specs.Least.{least};
+ghost use Rattle.std.specs.Prelude.{◌≡◌, Bool, true, not, ◌&&◌, ◌||◌, eqb, ℕ, ◌+◌, ◌-◌, ◌*◌, ◌≤◌, ◌<◌, ◌^◌, length};
+ghost use Rattle.facts.specs.Tests.{Agrees, some_least};
 ghost use Rattle.refusals.specs.Refusals.{accepted};
 ghost use Rattle.rules.specs.Table.{between};
 ghost use Rattle.tables.specs.Tables.{answer_of};
-ghost use Rattle.plantext.specs.Form.{letter_at, in_name, letters_from, word_stands, digits_end, point_at, zeros_end, number_at, value_of, value_at, name_at, name_length, name_end, duration_at, next_line, start_form, duration_form, in_form};
-ghost use Rattle.plantext.specs.Names.{name_size, name_letter, is_named, misnamed, shares_name, names_check, job_named};
-ghost use Rattle.plantext.specs.Steps.{kind_of, NumberEnds};
+ghost use Rattle.plantext.specs.Form.{letter_at, is_digit, is_zero, in_name, letters_from, word_stands, digits_end, point_at, zeros_end, number_at, value_of, value_at, name_at, name_length, name_end, duration_at, next_line, start_form, duration_form, in_form};
+ghost use Rattle.plantext.specs.Names.{name_size, name_letter, is_named, misnamed, shares_name, names_check};
+ghost use Rattle.plantext.specs.Steps.{NumberEnds};
 
 use tables::Answer;
-
-// The kinds of letters that are looked for; any other number means names.
-const DIGITS: u8 = 0;
-
-const ZEROS: u8 = 1;
-
-const NAMES: u8 = 2;
 
 // The letter at a place, 0 behind the end.
 fn letter_at(text: &[u8], i: usize) -> u8
     ensures { result ≡ letter_at text.now i }
 {
-    if i < text.len() {
-        return text[i];
-    }
-    0
+    text.get(i).copied().unwrap_or(0)
 }
 
 // n is from least to most.
 fn from_to(least: usize, most: usize, n: usize) -> bool
     ensures { result ≡ between least most n }
 {
-    least <= n && n <= most
+    (least..=most).contains(&n)
+}
+
+// A digit.
+fn is_digit(c: u8) -> bool
+    ensures { result ≡ is_digit c }
+{
+    c.is_ascii_digit()
+}
+
+// The digit 0.
+fn is_zero(c: u8) -> bool
+    ensures { result ≡ is_zero c }
+{
+    c == b'0'
 }
 
 // A letter of a name: a small letter, a digit or a hyphen.
 fn in_name(c: u8) -> bool
     ensures { result ≡ in_name c }
 {
-    from_to(97, 122, c as usize) || (from_to(48, 57, c as usize) || c == b'-')
+    c.is_ascii_lowercase() || (is_digit(c) || c == b'-')
 }
 
-// The letter is a digit, a zero or a letter of a name.
-fn of_kind(kind: u8, c: u8) -> bool
-    ensures { result ≡ kind_of kind c }
-{
-    if kind == DIGITS {
-        return from_to(48, 57, c as usize);
-    }
-    if kind == ZEROS {
-        return c == b'0';
-    }
-    in_name(c)
-}
-
-// How many letters from a place on are of a kind, so many at most.
-fn letters_from(kind: u8, text: &[u8], at: usize, most: usize) -> usize
-    requires { at + most < 2 ^ 64 }
-    ensures { (result ≡ letters_from (kind_of kind) text.now at most) × (result ≤ most) }
+// How many letters from a place on pass the test, so many at most; a loop, since the proof of a search whose closure calls the test did not close.
+fn letters_from<F: Fn(u8) -> bool>(text: &[u8], at: usize, most: usize, test: F) -> usize
+    requires room { at + most < 2 ^ 64 }
+    requires callable { F.IsAlwaysCallable test }
+    ensures count { (f : ℕ → Bool) → ((c : ℕ) → c < 256 → Agrees f c (F.post test c)) → result ≡ letters_from f text.now at most }
+    ensures few { result ≤ most }
 {
     for i in 0..most {
-        let wanted = of_kind(kind, letter_at(text, at + i));
-        if !wanted {
+        if !test(letter_at(text, at + i)) {
             return i;
         }
     }
@@ -76,13 +68,7 @@ fn word_at(word: &[u8], text: &[u8], at: usize) -> bool
     requires { at + length word.now < 2 ^ 64 }
     ensures { result ≡ word_stands word.now text.now at }
 {
-    let n = word.len();
-    for i in 0..n {
-        if letter_at(text, at + i) != word[i] {
-            return false;
-        }
-    }
-    true
+    (0..word.len()).all(|i| letter_at(text, at + i) == word[i])
 }
 
 // Where the digits from a place on end, looked at up to the fifth.
@@ -90,7 +76,7 @@ fn digits_end(text: &[u8], at: usize) -> usize
     requires { at ≤ length text.now + 40 }
     ensures { (result ≡ digits_end text.now at) × (result ≤ at + 5) }
 {
-    at + letters_from(DIGITS, text, at, 5)
+    at + letters_from(text, at, 5, is_digit)
 }
 
 // A point stands at a place, so within the text.
@@ -105,7 +91,7 @@ fn zeros_end(text: &[u8], at: usize) -> usize
     requires { at ≤ length text.now }
     ensures { (result ≡ zeros_end text.now at) × (result ≤ length text.now) }
 {
-    at + letters_from(ZEROS, text, at, text.len() - at)
+    at + letters_from(text, at, text.len() - at, is_zero)
 }
 
 // Where the number at a place ends: behind its digits, or behind the zeros that follow the point.
@@ -139,10 +125,7 @@ fn number_at(text: &[u8], at: usize) -> bool
 fn digit_value(c: u8) -> u64
     ensures { (result ≡ c - 48) × (result < 256) }
 {
-    if c < 48 {
-        return 0;
-    }
-    (c - 48) as u64
+    u64::from(c.saturating_sub(b'0'))
 }
 
 // The value of so many digits from a place on.
@@ -162,7 +145,7 @@ pub fn value_at(text: &[u8], at: usize) -> u64
     requires { at ≤ length text.now + 40 }
     ensures { result ≡ value_at text.now at }
 {
-    value_of(text, at, letters_from(DIGITS, text, at, 5))
+    value_of(text, at, letters_from(text, at, 5, is_digit))
 }
 
 // Where the name of the line at a place stands.
@@ -178,7 +161,7 @@ fn name_length(text: &[u8], at: usize) -> usize
     requires { at ≤ length text.now }
     ensures { (result ≡ name_length text.now at) × (result ≤ 17) }
 {
-    letters_from(NAMES, text, name_at(text, at), 17)
+    letters_from(text, name_at(text, at), 17, in_name)
 }
 
 // Where the name ends.
@@ -247,7 +230,7 @@ pub fn name_size(names: &[u8], j: usize) -> usize
     requires { j < 24 }
     ensures { (result ≡ name_size names.now j) × (result ≤ 16) }
 {
-    letters_from(NAMES, names, 16 * j, 16)
+    letters_from(names, 16 * j, 16, in_name)
 }
 
 // Letter i of the name of so many letters at a place; zeros behind it.
@@ -255,10 +238,7 @@ fn name_letter(text: &[u8], at: usize, size: usize, i: usize) -> u8
     requires { at + i < 2 ^ 64 }
     ensures { result ≡ name_letter text.now at size i }
 {
-    if i < size {
-        return letter_at(text, at + i);
-    }
-    0
+    if i < size { letter_at(text, at + i) } else { 0 }
 }
 
 // The 16 bytes of job j are the name of so many letters at a place.
@@ -266,12 +246,7 @@ fn is_named(names: &[u8], j: usize, text: &[u8], at: usize, size: usize) -> bool
     requires { (j < 24) × (at + 16 < 2 ^ 64) }
     ensures { result ≡ is_named names.now j text.now at size }
 {
-    for i in 0..16 {
-        if letter_at(names, 16 * j + i) != name_letter(text, at, size, i) {
-            return false;
-        }
-    }
-    true
+    (0..16).all(|i| letter_at(names, 16 * j + i) == name_letter(text, at, size, i))
 }
 
 // Job j has no name of 1 to 16 letters with zeros alone behind it.
@@ -280,10 +255,7 @@ fn misnamed(names: &[u8], j: usize) -> bool
     ensures { result ≡ misnamed names.now j }
 {
     let size = name_size(names, j);
-    if size == 0 {
-        return true;
-    }
-    !is_named(names, j, names, 16 * j, size)
+    size == 0 || !is_named(names, j, names, 16 * j, size)
 }
 
 // Job i is not job j and has its bytes.
@@ -299,12 +271,7 @@ fn shares_name(names: &[u8], n: usize, j: usize) -> bool
     requires { (n ≤ 24) × (j < 24) }
     ensures { result ≡ shares_name names.now n j }
 {
-    for i in 0..n {
-        if namesake(names, i, j) {
-            return true;
-        }
-    }
-    false
+    (0..n).any(|i| namesake(names, i, j))
 }
 
 // The name of job j is not one, or not its own.
@@ -315,17 +282,12 @@ fn bad_name(names: &[u8], n: usize, j: usize) -> bool
     misnamed(names, j) || shares_name(names, n, j)
 }
 
-// The lowest of n jobs whose name is not one, or not its own, or n.
-fn first_misnamed(names: &[u8], n: usize) -> usize
+// The lowest of n jobs whose name is not one, or not its own.
+fn first_misnamed(names: &[u8], n: usize) -> Option<usize>
     requires { n ≤ 24 }
-    ensures { result ≡ least (λ j. misnamed names.now j || shares_name names.now n j) n }
+    ensures { result ≡ some_least (λ j. misnamed names.now j || shares_name names.now n j) n }
 {
-    for j in 0..n {
-        if bad_name(names, n, j) {
-            return j;
-        }
-    }
-    n
+    (0..n).find(|&j| bad_name(names, n, j))
 }
 
 // Check 33, over n jobs.
@@ -333,24 +295,18 @@ pub fn names_fault(names: &[u8], n: usize) -> Answer
     requires { n ≤ 24 }
     ensures { result ≡ answer_of (names_check names.now n accepted) 0 0 }
 {
-    let j = first_misnamed(names, n);
-    if j < n {
-        return tables::refuse(33, j as u16, 0);
+    match first_misnamed(names, n) {
+        Some(j) => tables::refuse(33, j as u16, 0),
+        None => tables::done(0),
     }
-    tables::done(0)
 }
 
-// The job that the line at a place names, or n.
-pub fn job_named(names: &[u8], n: usize, text: &[u8], at: usize) -> usize
+// The job that the line at a place names.
+pub fn job_named(names: &[u8], n: usize, text: &[u8], at: usize) -> Option<usize>
     requires { (n ≤ 24) × (at ≤ length text.now) }
-    ensures { (result ≡ job_named names.now n text.now at) × (result ≤ n) }
+    ensures { result ≡ some_least (λ j. is_named names.now j text.now (name_at text.now at) (name_length text.now at)) n }
 {
     let name = name_at(text, at);
     let size = name_length(text, at);
-    for j in 0..n {
-        if is_named(names, j, text, name, size) {
-            return j;
-        }
-    }
-    n
+    (0..n).find(|&j| is_named(names, j, text, name, size))
 }

@@ -6,6 +6,7 @@ use mathlib.Core.List.{List}
 use Prim.Native.Nat.{ℕ, ◌/◌, ◌≤◌}
 use lib.Dec.{ltb}
 use lib.ListN.{length, get_or}
+use Rattle.std.specs.Prelude.{Ok, Err}
 use Rattle.facts.proofs.Bools.{or_l, at_most}
 use Rattle.refusals.specs.Refusals.{Verdict, accepted}
 use Rattle.refusals.proofs.Refused.{stopped}
@@ -21,7 +22,6 @@ use Rattle.plantext.specs.Names.{names_check}
 use Rattle.plantext.proofs.Laws.{names_checks}
 use Rattle.plantext.specs.Reading.{plan_said, lines_read, text_checks, read_verdict, ReadsText}
 use Rattle.plantext_read.specs.Steps.{SaysLines}
-use Rattle.plantext_read.specs.declared.TextStarts.{TextStarts}
 
 module _ (l : Loaded) (q : Ask) (names text old : List ℕ) {short : Bool} {f : Answer} (e : short ≡ (ltb (length old) q.jobs || ltb (length names / 16) q.jobs)) (h : Judges (call_checks short 0 l q accepted) (Cleared short 0 l q) f) where
   abbrev few : Bool
@@ -60,17 +60,18 @@ module _ (l : Loaded) (q : Ask) (names text old : List ℕ) {short : Bool} {f : 
           let b : (names_check names q.jobs accepted).number ≡ 0 → ⊥ = λ y. n (numbered 0 0 k ∙ y) in
           reads (left_so 0 _ old k (behind ∙ stopped (names_check names q.jobs) (names_checks names q.jobs) b _) b)
 
-      module _ (y : g.number ≡ 0) (t : TextStarts) (s : SaysLines (problem l q) names text t) where
+      module _ (y : g.number ≡ 0) where
         lines : read_verdict l q names text (length old) ≡ text_checks (problem l q) names text accepted
         lines = behind ∙ goes_behind (names_checks names q.jobs) k y (text_checks (problem l q) names text accepted)
 
         -- refused for a line
-        pub line_refused : (t.answer.number ≡ 0 → ⊥) → ReadsText l q names text old old t.answer
-        line_refused n = reads (left_so 0 _ old s.says lines (λ x. n (numbered 0 0 s.says ∙ x)))
+        pub line_refused : (t : Answer) → SaysLines (problem l q) names text (Err t) → ReadsText l q names text old old t
+        line_refused t s = reads (left_so 0 _ old s.0 lines (λ x. s.1 (numbered 0 0 s.0 ∙ x)))
 
         -- read
-        pub read_all : {new : List ℕ} → t.answer.number ≡ 0 → new ≡ filled (λ i. get_or t.starts i 0) q.jobs old → ReadsText l q names text old new t.answer
-        read_all x w =
+        pub read_all : (starts : List ℕ) → SaysLines (problem l q) names text (Ok starts) → {t : Answer} → t ≡ answer_of accepted 0 0
+            → {new : List ℕ} → new ≡ filled (λ i. get_or starts i 0) q.jobs old → ReadsText l q names text old new t
+        read_all starts s x w =
             let v = read_verdict l q names text (length old) in
-            let z : v.number ≡ 0 = ap (λ (y : Verdict). y.number) lines ∙ sym (numbered 0 0 s.says) ∙ x in
-            reads (s.says ∙ said 0 0 lines, w ∙ filled_same (λ i. get_or t.starts i 0) _ q.jobs old (s.starts x) ∙ sym (changed_new v _ old z))
+            let e : v ≡ accepted = lines ∙ s.0 in
+            reads (x ∙ said 0 0 e, w ∙ filled_same (λ i. get_or starts i 0) _ q.jobs old s.1 ∙ sym (changed_new v _ old (ap (λ (y : Verdict). y.number) e)))

@@ -11,6 +11,7 @@ use lib.Dec.{T, ltb, le→leb, leb→le}
 use lib.ListN.{length, get_or, set, length-set}
 use lib.Seq.{get_or-set_same, get_or-set_other}
 use borrow.Author.Tests.{eq-eqb}
+use Rattle.std.specs.Prelude.{Ok, Err}
 use Rattle.facts.proofs.Bools.{not_eqb, eqb_not}
 use Rattle.refusals.specs.Refusals.{Verdict, accepted}
 use Rattle.rules.specs.Table.{Problem}
@@ -91,24 +92,18 @@ module _ (P : Problem) (names text : List ℕ) where
 
   -- the first bad line
   pub ends_bad : (k at : ℕ) (starts : List ℕ) {t : Answer} → Going k at starts → at < length text → t ≡ answer_of (line_checks P names text k accepted) (line_job P names text k) 0 → (t.number ≡ 0 → ⊥)
-      → SaysLines P names text (record { answer = t; starts = starts })
+      → SaysLines P names text (Err t)
   unfolding text_over
   ends_bad k at starts {t} g l e n =
       let b : (line_checks P names text k accepted).number ≡ 0 → ⊥ = λ z. n (numbered (line_job P names text k) 0 e ∙ z) in
-      record {
-        says = e ∙ answer_no (line_checks P names text k accepted) (line_job P names text k) 0 0 b ∙ said 0 0 (stops_bad P names text k g.goes (λ x. omega (arith, leb→le (length text) (line_at text k) x, g.place)) b accepted);
-        starts = λ z. absurd (n z);
-      }
+      (e ∙ answer_no (line_checks P names text k accepted) (line_job P names text k) 0 0 b ∙ said 0 0 (stops_bad P names text k g.goes (λ x. omega (arith, leb→le (length text) (line_at text k) x, g.place)) b accepted), n)
 
   -- the end of the text
-  pub ends_over : (k at : ℕ) (starts : List ℕ) {t : Answer} → Going k at starts → length text ≤ at → t ≡ answer_of accepted 0 0 → SaysLines P names text (record { answer = t; starts = starts })
+  pub ends_over : (k at : ℕ) (starts : List ℕ) → Going k at starts → length text ≤ at → SaysLines P names text (Ok starts)
   unfolding text_over
-  ends_over k at starts g l e =
+  ends_over k at starts g l =
       let o = stops_over P names text k g.goes (le→leb (length text) (line_at text k) (omega (arith, g.place))) in
-      record {
-        says = e ∙ said 0 0 (o.1 accepted);
-        starts = λ z j h. g.told j h ∙ ap (λ (i : ℕ). plan_said P names text i j) (sym o.0);
-      }
+      (o.1 accepted, λ j h. g.told j h ∙ ap (λ (i : ℕ). plan_said P names text i j) (sym o.0))
 
 -- ── one line ──
 

@@ -36,29 +36,22 @@ fn line_fault(
     if formless(text, at) {
         return tables::refuse(23, k as u16, 0);
     }
-    let j = plantext::job_named(names, q.jobs, text, at);
-    if j == q.jobs {
-        return tables::refuse(24, k as u16, 0);
-    }
+    let j = match plantext::job_named(names, q.jobs, text, at) {
+        Some(j) => j,
+        None => return tables::refuse(24, k as u16, 0),
+    };
     if starts[j] != 65535 {
         return tables::refuse(25, k as u16, 0);
     }
     let a = l.jobs[j];
-    if plantext::value_at(text, plantext::duration_at(text, at)) != a.duration as u64 {
+    if plantext::value_at(text, plantext::duration_at(text, at)) != u64::from(a.duration) {
         return tables::refuse(26, k as u16, 0);
     }
     tables::done(j as u32)
 }
 
-// What the lines say: the answer and, where it accepts, the starts.
-#[derive(Clone, Copy)]
-pub struct TextStarts {
-    pub answer: Answer,
-    pub starts: [u16; 24],
-}
-
-// Line by line up to the end of the text or the first bad line.
-fn read_lines(l: Loaded, q: Ask, names: &[u8], text: &[u8]) -> TextStarts
+// The starts that the lines say, line by line up to the end of the text or the first bad line; a `while`, since each line says where the next one stands.
+fn read_lines(l: Loaded, q: Ask, names: &[u8], text: &[u8]) -> Result<[u16; 24], Answer>
     requires { q.jobs ≤ 24 }
     ensures { SaysLines (problem l q) names.now text.now result }
 {
@@ -68,14 +61,13 @@ fn read_lines(l: Loaded, q: Ask, names: &[u8], text: &[u8]) -> TextStarts
     while at < text.len() {
         let answer = line_fault(l, q, names, text, starts, at, k);
         if answer.number != 0 {
-            return TextStarts { answer, starts };
+            return Err(answer);
         }
         starts[answer.value as usize] = plantext::value_at(text, at) as u16;
         at = plantext::next_line(text, at);
-        k = k + 1;
+        k += 1;
     }
-    let answer = tables::done(0);
-    TextStarts { answer, starts }
+    Ok(starts)
 }
 
 // The starts that the lines of a text say, one a job, into lent memory; a job without a line is out.
@@ -91,12 +83,11 @@ pub fn read_text(l: Loaded, q: Ask, names: &[u8], text: &[u8], out: &mut [u16]) 
     if bad.number != 0 {
         return bad;
     }
-    let read = read_lines(l, q, names, text);
-    let answer = read.answer;
-    if answer.number != 0 {
-        return answer;
+    match read_lines(l, q, names, text) {
+        Ok(starts) => {
+            entries::fill(out, starts, q.jobs);
+            tables::done(0)
+        }
+        Err(answer) => answer,
     }
-    let starts = read.starts;
-    entries::fill(out, starts, q.jobs);
-    answer
 }

@@ -25,12 +25,6 @@ steps_at names P s = starting_at (step_line names P s) s P.count
 abbrev pub PutsText : (text : List ℕ) (at : ℕ) (before after : List ℕ) (r : ℕ) → Type 0
 PutsText text = Lays (length text) text
 
--- r is `best`, or earlier and still from `from` on, and the start is not between `from` and r
-pub record SoonerStart (start from best r : ℕ) : Type 0 where
-  pub least : r ≤ best
-  pub later : from ≤ r
-  pub free : from ≤ start → start < r → ⊥
-
 -- r is from `from` on and at most `till`, and no job below n starts between
 pub record NextStart (n : ℕ) (s : Plan) (from till r : ℕ) : Type 0 where
   pub least : r ≤ till

@@ -8,7 +8,7 @@ ghost use Rattle.tables.specs.Tables.{problem};
 ghost use Rattle.lines.specs.Lines.{decimal};
 ghost use Rattle.plantext.specs.Names.{name_of};
 ghost use Rattle.plantext.specs.Writing.{steps_text, WritesText};
-ghost use Rattle.plantext_write.specs.Steps.{TextGiven, step_at, steps_at, PutsText, SoonerStart, NextStart};
+ghost use Rattle.plantext_write.specs.Steps.{TextGiven, step_at, steps_at, PutsText, NextStart};
 ghost use Rattle.verdict.specs.Steps.{Given};
 
 use tables::{Answer, Ask, Loaded};
@@ -46,7 +46,7 @@ fn put_step(
     requires { TextGiven q names.now s.now × (j < q.jobs) × (at + length (step_at names.now (problem l q) (starts s.now) t j) ≤ length out.old) }
     ensures { PutsText (step_at names.now (problem l q) (starts s.now) t j) at out.old out.new result }
 {
-    let start = entries::wide(s[j]);
+    let start = u32::from(s[j]);
     if start as usize != t {
         return at;
     }
@@ -54,7 +54,7 @@ fn put_step(
     let first = put_with(start, b".000: (", at, out);
     let second = put_name(names, j, first, out);
     let third = lines::put_word(b") [", second, out);
-    put_with(entries::wide(a.duration), b".000]\n", third, out)
+    put_with(u32::from(a.duration), b".000]\n", third, out)
 }
 
 // The lines of the jobs that start at t, by number.
@@ -78,30 +78,17 @@ fn put_starting(
     next
 }
 
-// The start where it comes from `from` on and before best, else best.
-fn sooner(start: u16, from: usize, best: usize) -> usize
-    requires { from ≤ best }
-    ensures { SoonerStart start from best result }
-{
-    let at = entries::wide(start) as usize;
-    if at < from {
-        return best;
-    }
-    if best <= at {
-        return best;
-    }
-    at
-}
-
 // The next moment from `from` on at which a job starts, or till.
 fn next_start(q: Ask, s: &[u16], from: usize, till: usize) -> usize
     requires { Given q s.now × (from ≤ till) }
     ensures { NextStart q.jobs (starts s.now) from till result }
 {
-    let n = q.jobs;
     let mut best = till;
-    for j in 0..n {
-        best = sooner(s[j], from, best);
+    for j in 0..q.jobs {
+        let at = usize::from(s[j]);
+        if from <= at {
+            best = best.min(at);
+        }
     }
     best
 }

@@ -5,15 +5,11 @@ use mathlib.Core.Logic.{◌≢◌}
 use mathlib.Core.Bool.{Bool, false}
 use mathlib.Core.List.{List}
 use Prim.Native.Nat.{ℕ, ◌+◌, ◌≤◌, ◌<◌}
-use native.Mathlib.Nat.{le_trans}
 use native.Mathlib.Omega.{arith}
 use lib.Dec.{T}
 use Rattle.facts.specs.Facts.{has}
 use Rattle.facts.specs.Words.{Decides}
-use Rattle.facts.specs.Least.{least}
-use Rattle.facts.specs.Walks.{Walk}
 use Rattle.facts.proofs.Sets.{has_zero}
-use Rattle.facts.proofs.Walks.{Done, done_next, done_map}
 use Rattle.rules.specs.Premises.{InOrder}
 use Rattle.rules.specs.Supports.{Support, start, nobody, by, Who, task, goal}
 use Rattle.states.specs.State.{Search, Spaced, St, More, Dead, Must, MustNot, Sure, Low, NeedsFact, there, surely_late, useless, Killer, StartMay, JobMay, May, Forced, ForcedStart}
@@ -26,7 +22,7 @@ use Rattle.lent.proofs.Laws.{wait_of_lem}
 use Rattle.lent.proofs.Consumers.{who_job, other_who, wants_of_lem}
 use Rattle.supports.specs.Supports.{Danger, Candidate, Sight, NoMay}
 use Rattle.prune.specs.Prune.{Lost, Killers, Spared, Begun, LeastEnd, AllCandidates, Awaits, OnlyOne, OnlyStart}
-use Rattle.jobs.specs.Jobs.{Single}
+use Rattle.jobs.specs.Jobs.{OnlyJob}
 
 -- ── no candidate ──
 
@@ -59,9 +55,6 @@ module _ {P : Search} (wf : InOrder P.problem) {s : List ℕ} {b a kills : ℕ} 
   pub spare_in : Must P (view s) a
   spare_in = rules.forced_must P wf (view s) (who_at b) x.p a x.here x.forced
 
-  pub spare_before : b < 24 → Sure P (view s) a b
-  spare_before l = rules.forced_before P wf (view s) b x.p a (of_job l)
-
 pub begun_more : {s t : List ℕ} {b kills : ℕ} (P : Search) → Begun s b kills P → More (view s) (view t) → Begun t b kills P
 begun_more P x m = record { p = x.p; forced = λ Q l. x.forced Q (left_back m l); killers = x.killers }
 
@@ -69,17 +62,11 @@ module _ {P : Search} (wf : InOrder P.problem) {s : List ℕ} {b kills : ℕ} (x
   pub begun_before : b < 24 → d ≢ b → Sure P (view s) b d
   begun_before l n = rules.start_before P wf (view s) b x.p (subst (λ (v : Who). ForcedStart P (view s) v x.p) (who_job b l) x.forced) d (x.killers d k) n
 
-  pub begun_out : b ≡ 24 → MustNot P (view s) d
-  begun_out e = rules.start_bars P wf (view s) x.p (rw e at x.forced) d (x.killers d k)
-
 -- ── walks ──
 
 -- behind job a, b starts at m or later
 abbrev pub Ends : (s L : List ℕ) (b m a : ℕ) → Type 0
 Ends s L b m a = a < 24 → m ≤ (view s).lo a + wait_of L a b
-
-pub least_next : (s L : List ℕ) (b : ℕ) {w v v' d m r : ℕ} → Done (Ends s L b m) w v → Walk 32 v v' → d ≡ least (has v) 32 → (r ≤ m) × Ends s L b r d → Done (Ends s L b r) w v'
-least_next s L b {r = r} f k e x = done_next (done_map (λ a g l. le_trans x.0 (g l)) f) k (subst (λ (a : ℕ). Ends s L b r a) e x.1)
 
 -- ── from candidates to a forced support ──
 
@@ -95,13 +82,13 @@ awaits_low {P} {L} {s} {b} {w} {r} wf x l f =
 no_bit : {w : ℕ} (a : ℕ) → w ≡ 0 → T (has w a) → ⊥
 no_bit a e h = has_zero a (subst (λ (v : ℕ). T (has v a)) e h)
 
-pub only_spared : {P : Search} {s : List ℕ} {b w kills a : ℕ} → InOrder P.problem → OnlyOne s b w kills P → Single w a → a < 24 → T (there (view s) (who_at b)) → Spared s b a kills P
-only_spared {P} {s} {b} {w} {kills} {a} wf x o l h = let t = x.told in record { p = t.p; here = h; forced = rules.only_job P wf (view s) (who_at b) t.p h t.wants a only; killers = x.killers }
+pub only_spared : {P : Search} {s : List ℕ} {b w kills a : ℕ} → InOrder P.problem → OnlyOne s b w kills P → OnlyJob w a → T (there (view s) (who_at b)) → Spared s b a kills P
+only_spared {P} {s} {b} {w} {kills} {a} wf x o h = let t = x.told in record { p = t.p; here = h; forced = rules.only_job P wf (view s) (who_at b) t.p h t.wants a only; killers = x.killers }
   where
     only : (y : Support) → May P (view s) x.told.p (who_at b) y → y ≡ by a
     only start m = absurd (x.late m)
     only nobody m = absurd m
-    only (by c) m = ap by (o.only l c (x.told.all c m))
+    only (by c) m = ap by (o.only c (x.told.all c m))
 
 pub only_begun : {P : Search} {s : List ℕ} {b w kills : ℕ} → InOrder P.problem → OnlyStart s b w kills P → w ≡ 0 → T (there (view s) (who_at b)) → Begun s b kills P
 only_begun {P} {s} {b} wf x e h = let t = x.told in record { p = t.p; forced = rules.only_start P wf (view s) (who_at b) t.p h t.wants only; killers = x.killers }

@@ -1,4 +1,4 @@
-// Pruning by supports.
+// Pruning by supports. A consumer b is a job, or 24 for End, as the rows of the lent table are numbered.
 
 #![tactic(auto)]
 
@@ -23,7 +23,7 @@ fn none_left(s: &mut State, b: usize)
     cells::put_barred(s, b);
 }
 
-// Job a is the support of b in the plan left; d is another job that deletes its fact.
+// Job a is the support of b in the plan left; d is another job that deletes its fact, or a stray bit.
 fn spare(s: &mut State, b: usize, a: usize, d: usize)
     requires { (b ≤ 24) × (a < 24) }
     ensures { (kills : ℕ) → T (has kills d) → Prunes (Spared s.old b a kills) s.old s.new }
@@ -51,10 +51,8 @@ fn spare_all(s: &mut State, b: usize, a: usize, kills: u32)
     requires { (b ≤ 24) × (a < 24) }
     ensures { Prunes (Spared s.old b a kills) s.old s.new }
 {
-    let mut w = kills;
-    while w != 0 {
-        spare(s, b, a, jobs::lowest(w));
-        w = jobs::rest(w);
+    for d in jobs::each(kills) {
+        spare(s, b, a, d);
     }
 }
 
@@ -78,7 +76,7 @@ fn take_only(s: &mut State, b: usize, a: usize, kills: u32)
     spare_all(s, b, a, kills);
 }
 
-// Start alone gives the fact to b: a job d that deletes it comes after b, or is out for End.
+// Start alone gives the fact to b: a job d that deletes it comes after b, or is out for End. A stray bit is no job.
 fn follow(s: &mut State, b: usize, d: usize)
     requires { b ≤ 24 }
     ensures { (kills : ℕ) → T (has kills d) → Prunes (Begun s.old b kills) s.old s.new }
@@ -101,14 +99,12 @@ fn follow_all(s: &mut State, b: usize, kills: u32)
     requires { b ≤ 24 }
     ensures { Prunes (Begun s.old b kills) s.old s.new }
 {
-    let mut w = kills;
-    while w != 0 {
-        follow(s, b, jobs::lowest(w));
-        w = jobs::rest(w);
+    for d in jobs::each(kills) {
+        follow(s, b, d);
     }
 }
 
-// The smaller of m and where b may start at the earliest behind job a.
+// The smaller of m and where b may start at the earliest behind job a, if that is no stray bit.
 fn sooner(s: &State, a: usize, b: usize, t: &Tables, m: u64) -> u64
     requires { b ≤ 24 }
     ensures { (result ≤ m) × (a < 24 → result ≤ (view s.now).lo a + wait_of t.now a b) }
@@ -116,23 +112,17 @@ fn sooner(s: &State, a: usize, b: usize, t: &Tables, m: u64) -> u64
     if 24 <= a {
         return m;
     }
-    let x = cells::sum(cells::lo(s, a), lent::wait(t, a, b));
-    if x < m {
-        return x;
-    }
-    m
+    cells::sum(cells::lo(s, a), lent::wait(t, a, b)).min(m)
 }
 
-// Where b may start at the earliest behind the first of its candidates.
+// Where b may start at the earliest behind the first of its candidates; where there is none, later than any start.
 fn least_of(s: &State, w: u32, b: usize, t: &Tables) -> u64
     requires { b ≤ 24 }
     ensures { LeastEnd s.now t.now w b result }
 {
     let mut m: u64 = 8589934592;
-    let mut v = w;
-    while v != 0 {
-        m = sooner(s, jobs::lowest(v), b, t, m);
-        v = jobs::rest(v);
+    for a in jobs::each(w) {
+        m = sooner(s, a, b, t, m);
     }
     m
 }
@@ -153,14 +143,11 @@ fn only_one(s: &mut State, b: usize, w: u32, kills: u32)
     requires { b ≤ 24 }
     ensures { Prunes (OnlyOne s.old b w kills) s.old s.new }
 {
-    let a = jobs::single(w);
-    if a == 24 {
-        return;
+    if let Some(a) = jobs::single(w) {
+        if supports::there_for(s, b) {
+            take_only(s, b, a, kills);
+        }
     }
-    if !supports::there_for(s, b) {
-        return;
-    }
-    take_only(s, b, a, kills);
 }
 
 // The rule on Start where no job is a candidate.
@@ -168,13 +155,9 @@ fn with_start(s: &mut State, b: usize, w: u32, kills: u32)
     requires { b ≤ 24 }
     ensures { Prunes (OnlyStart s.old b w kills) s.old s.new }
 {
-    if w != 0 {
-        return;
+    if w == 0 && supports::there_for(s, b) {
+        follow_all(s, b, kills);
     }
-    if !supports::there_for(s, b) {
-        return;
-    }
-    follow_all(s, b, kills);
 }
 
 // The rules on supports for the fact p of the consumer b.
@@ -197,27 +180,11 @@ fn support(s: &mut State, b: usize, p: usize, t: &Tables)
     only_one(s, b, w, kills);
 }
 
-// The same, if p is a condition of b.
-fn condition(s: &mut State, b: usize, p: usize, t: &Tables)
-    requires { b ≤ 24 }
-    ensures { Prunes (Lent t.now) s.old s.new }
-{
-    if 64 <= p {
-        return;
-    }
-    if facts::has(lent::wants(t, b), p) {
-        support(s, b, p, t);
-    }
-}
-
 // The consumer b is End, or a job that is not out. Any answer is right; this one saves work.
 fn live(s: &State, b: usize) -> bool
     requires { b ≤ 24 }
 {
-    if b == 24 {
-        return true;
-    }
-    !cells::barred(s, b)
+    b == 24 || !cells::barred(s, b)
 }
 
 // The same for all conditions of a job, or the goals.
@@ -228,10 +195,8 @@ fn consumer(s: &mut State, b: usize, t: &Tables)
     if !live(s, b) {
         return;
     }
-    let mut w = lent::wants(t, b);
-    while w != 0 {
-        condition(s, b, lent::first(w), t);
-        w = facts::rest(w);
+    for p in facts::each(lent::wants(t, b)) {
+        support(s, b, p, t);
     }
 }
 
@@ -260,16 +225,6 @@ fn round(s: &mut State, t: &Tables)
     consumers(s, t);
 }
 
-// Both states are the same.
-fn same(s: &State, t: &State) -> bool {
-    for i in 0..100 {
-        if s[i] != t[i] {
-            return false;
-        }
-    }
-    true
-}
-
 // The rules that cost more: room for jobs that exclude each other, and supports that are different.
 fn rare(s: &mut State, t: &Tables)
     ensures { Prunes (Lent t.now) s.old s.new }
@@ -289,22 +244,18 @@ fn rests(s: &mut State, t: &Tables) -> bool
     if orders::broken(s) {
         return true;
     }
-    if !same(&old, s) {
+    if old != *s {
         return false;
     }
     rare(s, t);
-    if orders::broken(s) {
-        return true;
-    }
-    same(&old, s)
+    orders::broken(s) || old == *s
 }
 
 // Every rule until nothing changes.
 pub fn tighten(s: &mut State, t: &Tables)
     ensures { Prunes (Lent t.now) s.old s.new }
 {
-    let most: usize = 4096;
-    for turn in 0..most {
+    for _ in 0..4096 {
         if rests(s, t) {
             return;
         }

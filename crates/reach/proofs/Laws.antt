@@ -1,70 +1,49 @@
 -- What the steps of the rows rest on.
 -- Assumes nothing.
-use mathlib.Core.Path.{◌≡◌, refl, sym, ap, ◌∙◌, subst}
+use mathlib.Core.Path.{◌≡◌, sym, subst, ◌∙◌}
 use mathlib.Core.Logic.{◌⊎◌, inl, inr}
-use mathlib.Core.Bool.{Bool, true, false, ◌&&◌, ◌||◌}
+use mathlib.Core.Bool.{Bool, not, ◌&&◌, ◌||◌}
 use mathlib.Core.List.{List}
-use Prim.Native.Nat.{ℕ, ◌+◌, ◌≤◌, ◌<◌}
+use Prim.Native.Nat.{ℕ, ◌^◌, ◌≤◌, ◌<◌}
 use native.Mathlib.Decide.{dec_lt}
 use native.Mathlib.Omega.{arith}
-use lib.Dec.{T, eqb, eqb→eq}
-use lib.ListN.{length, get_or, set, length-set, get_or-eq_default}
-use lib.Seq.{get_or-set_same, get_or-set_other}
+use lib.Bits.{bit_and}
+use lib.Dec.{T, eqb, ltb, eqb→eq, lt→ltb, T_not, not_T}
+use lib.ListN.{length, get_or, get_or-eq_default}
 use Rattle.facts.specs.Facts.{has}
 use Rattle.facts.specs.Words.{Word, Decides}
-use Rattle.facts.proofs.Bools.{and_l, and_r, and_of, or_cases, or_l, or_r, below_suc, eqb_of, passes, decides_true}
-use Rattle.facts.proofs.Sets.{has_zero}
+use Rattle.facts.proofs.Bools.{and_l, and_r, and_of, or_cases, or_l, or_r, eqb_of, decides_test}
+use Rattle.facts.proofs.Sets.{has_zero, covers_and}
 use Rattle.reach.specs.Rows.{in_rows, FitIn, Seen, StayBeside, grown_row, Grown, PairFound, Looked}
-
--- ── words ──
-
-pub if_so : {so : Bool} (x y : Bool) → so ≡ true → (x || y) ≡ (x || (so && y))
-if_so x y e = ap (λ (b : Bool). x || (b && y)) (sym e)
-
-pub if_not : {so : Bool} (x y : Bool) → so ≡ false → x ≡ (x || (so && y))
-if_not x y e = same x ∙ ap (λ (b : Bool). x || (b && y)) (sym e)
-  where
-    same : (x : Bool) → x ≡ (x || false)
-    same true = refl
-    same false = refl
 
 -- ── what stays beside a job ──
 
-pub beside_none : (rows : List ℕ) (c d : ℕ) → StayBeside rows c d 0 0
-beside_none rows c d = record { sound = λ q h. absurd (has_zero q h); whole = λ q l. absurd (omega arith) }
+abbrev covered : ℕ → ℕ → Bool
+covered row c = eqb (bit_and row c) c
 
-pub beside_more : (rows : List ℕ) (c d n w r : ℕ) (hit : Bool) → StayBeside rows c d n w → Decides hit (Seen (get_or rows n 0) c d n) → Word (λ q. has w q || (hit && eqb q n)) r → StayBeside rows c d (n + 1) r
-beside_more rows c d n w r hit b k e = record { sound = λ q h. from q (or_cases (has w q) _ (subst T (e q) h)); whole = λ q l y. subst T (sym (e q)) (into q (below_suc q n (omega arith)) y) }
-  where
-    from : (q : ℕ) → T (has w q) ⊎ T (hit && eqb q n) → Seen (get_or rows q 0) c d q
-    from q (inl h) = b.sound q h
-    from q (inr h) = let m : q ≡ n = eqb→eq q n (and_r hit _ h) in rw m (k.yea (sym (passes hit (and_l hit _ h))))
+abbrev seen : (row c d q : ℕ) → Bool
+seen row c d q = not (has d q) && (has row q && covered row c)
 
-    into : (q : ℕ) → (q < n) ⊎ (q ≡ n) → Seen (get_or rows q 0) c d q → T (has w q || (hit && eqb q n))
-    into q (inl l) y = or_l (has w q) _ (b.whole q l y)
-    into q (inr m) y = or_r (has w q) _ (and_of hit _ (subst T (sym (decides_true k (rw m at y))) tt) (eqb_of m))
+module _ (rows : List ℕ) (c d : ℕ) (fits : c < 2 ^ 64) where
+  seen_at : (q : ℕ) → T (seen (get_or rows q 0) c d q) → Seen (get_or rows q 0) c d q
+  seen_at q h =
+      let row = get_or rows q 0 in
+      let k = and_r (not (has d q)) _ h in
+      record { stays = T_not (has d q) (and_l _ _ h); itself = and_l (has row q) _ k; all = (covers_and 64 row c fits).0 (eqb→eq _ _ (and_r (has row q) _ k)) }
+
+  at_seen : (q : ℕ) → Seen (get_or rows q 0) c d q → T (seen (get_or rows q 0) c d q)
+  at_seen q s = let row = get_or rows q 0 in and_of (not (has d q)) _ (not_T (has d q) s.stays) (and_of (has row q) _ s.itself (eqb_of ((covers_and 64 row c fits).1 s.all)))
+
+  pub seen_is : (q : ℕ) (b : Bool) → Decides b (Seen (get_or rows q 0) c d q) → b ≡ seen (get_or rows q 0) c d q
+  seen_is q b k = decides_test _ k (at_seen q) (seen_at q)
+
+  pub beside_all : (w : ℕ) → Word (λ q. ltb q 64 && seen (get_or rows q 0) c d q) w → StayBeside rows c d 64 w
+  beside_all w e = record { sound = λ q h. seen_at q (and_r (ltb q 64) _ (subst T (e q) h)); whole = λ q l y. subst T (sym (e q)) (and_of (ltb q 64) _ (lt→ltb q 64 l) (at_seen q y)) }
 
 -- ── rows that grow ──
 
-module _ (old : List ℕ) (a w : ℕ) where
-  pub grown_none : length old ≡ 64 → Grown old a w 0 old
-  grown_none e = record { size = e; grown = λ p l. absurd (omega arith); rest = λ p l. refl }
-
-  pub grown_more : (n row : ℕ) (cur new : List ℕ) → n < 64 → Grown old a w n cur → Word (grown_row (get_or old n 0) a w n) row → new ≡ set cur n row → Grown old a w (n + 1) new
-  grown_more n row cur new l g f e = record { size = ap (λ (x : List ℕ). length x) e ∙ (length-set cur n row ∙ g.size); grown = λ p m. below p (below_suc p n (omega arith)); rest = λ p m. behind p m }
-    where
-      other : (p : ℕ) → (p ≡ n → ⊥) → get_or new p 0 ≡ get_or cur p 0
-      other p ne = ap (λ (x : List ℕ). get_or x p 0) e ∙ get_or-set_other cur n p row 0 ne
-
-      here : get_or new n 0 ≡ row
-      here = ap (λ (x : List ℕ). get_or x n 0) e ∙ get_or-set_same cur n row 0 (omega (arith, g.size))
-
-      below : (p : ℕ) → (p < n) ⊎ (p ≡ n) → Word (grown_row (get_or old p 0) a w p) (get_or new p 0)
-      below p (inl m) = subst (Word (grown_row (get_or old p 0) a w p)) (sym (other p (λ x. omega arith))) (g.grown p m)
-      below p (inr m) = rw m (subst (Word (grown_row (get_or old n 0) a w n)) (sym here) f)
-
-      behind : (p : ℕ) → n + 1 ≤ p → get_or new p 0 ≡ get_or old p 0
-      behind p m = other p (λ x. omega arith) ∙ g.rest p (omega arith)
+pub grown_all : (old new : List ℕ) (a w : ℕ) → length old ≡ 64 → length new ≡ 64 → ((p : ℕ) → p < 64 → Word (grown_row (get_or old p 0) a w p) (get_or new p 0)) → Grown old a w 64 new
+grown_all old new a w e f h = record { size = f; grown = h; rest = λ p l. get_or-eq_default new 0 (omega (arith, f)) ∙ sym (get_or-eq_default old 0 (omega (arith, e))) }
 
 -- ── there is no row behind the last ──
 

@@ -4,15 +4,14 @@ use mathlib.Core.Path.{◌≡◌, refl, sym, ap, ◌∙◌, subst}
 use mathlib.Core.Logic.{◌⊎◌, inl, inr, ◌↔◌}
 use mathlib.Core.Bool.{Bool, not, ◌&&◌, ◌||◌}
 use mathlib.Core.List.{List}
-use Prim.Native.Nat.{ℕ, ◌+◌, ◌≤◌, ◌<◌}
-use native.Mathlib.Decide.{dec_le}
+use Prim.Native.Nat.{ℕ, ◌≤◌, ◌<◌}
+use native.Mathlib.Decide.{dec_le, dec_lt}
 use native.Mathlib.Omega.{arith}
 use lib.Dec.{T, T_not, not_T}
-use lib.ListN.{length, get_or, length-set}
-use lib.Seq.{get_or-set_same, get_or-set_other}
-use Rattle.facts.specs.Facts.{has, after}
+use lib.ListN.{length, get_or, get_or-eq_default}
+use Rattle.facts.specs.Facts.{has}
 use Rattle.facts.specs.Words.{Word, Covers, Decides}
-use Rattle.facts.proofs.Bools.{and_l, and_r, and_of, or_cases, or_l, or_r, passes, below_suc, decides_true}
+use Rattle.facts.proofs.Bools.{and_l, and_r, and_of, or_cases, or_l, or_r, passes, decides_true}
 use Rattle.facts.proofs.Sets.{has_zero, one_fails}
 use Rattle.rules.specs.Table.{Problem}
 use Rattle.rules.specs.Premises.{InOrder, adds}
@@ -20,27 +19,21 @@ use Rattle.tables.specs.declared.Action.{Action}
 use Rattle.tables.specs.declared.Loaded.{Loaded}
 use Rattle.tables.specs.declared.Ask.{Ask}
 use Rattle.tables.specs.Tables.{no_job, job_at, problem}
-use Rattle.tables.specs.Steps.{with_job}
 use Rattle.reach.specs.Reach.{Closed, EDeletes, outright, by_adding, by_needing, Takes, EWords}
 use Rattle.reach.specs.Rows.{in_rows, FitIn, Seen, StayBeside, Barred, Gone, deleting, EJob, EDone}
 use Rattle.reach.proofs.Laws.{in_range_lem}
 
 -- a word without the facts of another
-less : (x y r : ℕ) → Word (λ p. after (has 0 p) (has y p) (has x p)) r → (p : ℕ) → T (has r p) → T (has x p) × (T (has y p) → ⊥)
-unfolding after
-less x y r w p h = go (or_cases (has x p && not (has y p)) _ (subst T (w p) h))
-  where
-    go : T (has x p && not (has y p)) ⊎ T (has 0 p) → T (has x p) × (T (has y p) → ⊥)
-    go (inl z) = (and_l (has x p) _ z, T_not (has y p) (and_r (has x p) _ z))
-    go (inr z) = absurd (has_zero p z)
+module _ (x y r : ℕ) (w : Word (λ p. has x p && not (has y p)) r) (p : ℕ) where
+  less : T (has r p) → T (has x p) × (T (has y p) → ⊥)
+  less h = let z = subst T (w p) h in (and_l (has x p) _ z, T_not (has y p) (and_r (has x p) _ z))
 
-kept : (x y r : ℕ) → Word (λ p. after (has 0 p) (has y p) (has x p)) r → (p : ℕ) → T (has x p) → (T (has y p) → ⊥) → T (has r p)
-unfolding after
-kept x y r w p h n = subst T (sym (w p)) (or_l (has x p && not (has y p)) _ (and_of (has x p) _ h (not_T (has y p) n)))
+  kept : T (has x p) → (T (has y p) → ⊥) → T (has r p)
+  kept h n = subst T (sym (w p)) (and_of (has x p) _ h (not_T (has y p) n))
 
 module _ (rows : List ℕ) (size : length rows ≡ 64) where
   -- what can hold and is not reachable with all of w
-  pub barred_is : (w x y r : ℕ) → StayBeside rows 0 0 64 x → StayBeside rows w 0 64 y → Word (λ p. after (has 0 p) (has y p) (has x p)) r → (p : ℕ) → Decides (has r p) (Barred rows w p)
+  pub barred_is : (w x y r : ℕ) → StayBeside rows 0 0 64 x → StayBeside rows w 0 64 y → Word (λ p. has x p && not (has y p)) r → (p : ℕ) → Decides (has r p) (Barred rows w p)
   barred_is w x y r all both e p = record { yea = λ h. there (less x y r e p (subst T (sym h) tt)); nay = λ h z. subst T h (back z) }
     where
       seen : (w : ℕ) → T (in_rows rows p p) → Covers (get_or rows p 0) w → Seen (get_or rows p 0) w 0 p
@@ -63,7 +56,7 @@ module _ (rows : List ℕ) (a : Action) where
       back p (inl h) = h
       back p (inr (f, h)) = absurd (n f)
 
-  pub ejob_fit : (x y z u r : ℕ) → FitIn rows a.conditions 64 → ((p : ℕ) → Decides (has x p) (Barred rows a.conditions p)) → Word (λ p. after (has 0 p) (has a.additions p) (has x p)) y → ((p : ℕ) → Decides (has z p) (Barred rows a.additions p)) → Word (λ p. has z p || has y p) u → Word (λ p. has a.deletions p || has u p) r → EJob rows a (deleting a r)
+  pub ejob_fit : (x y z u r : ℕ) → FitIn rows a.conditions 64 → ((p : ℕ) → Decides (has x p) (Barred rows a.conditions p)) → Word (λ p. has x p && not (has a.additions p)) y → ((p : ℕ) → Decides (has z p) (Barred rows a.additions p)) → Word (λ p. has z p || has y p) u → Word (λ p. has a.deletions p || has u p) r → EJob rows a (deleting a r)
   ejob_fit x y z u r f bc e ba g h = record { rest = refl; gone = λ p. (λ k. first p (or_cases (has a.deletions p) _ (subst T (h p) k)), back p) }
     where
       says : {b : Bool} {X : Type 0} → Decides b X → X → T b
@@ -124,24 +117,16 @@ module _ (P : Problem) (ok : InOrder P) (rows : List ℕ) (c : Closed P (in_rows
   takes_is r e = (λ h. takes_of (e.0 h), λ h. e.1 (of_takes h))
 
 module _ (rows : List ℕ) (l : Loaded) where
-  pub edone_none : length l.jobs ≡ 24 → EDone rows l 0 l
-  edone_none e = record { size = e; lent = refl; below = λ i m. absurd (omega arith); past = λ i m. refl }
+  -- place i of a table whose jobs below n delete what they take away
+  abbrev pub Turned : (n i : ℕ) → Action → Type 0
+  Turned n i a = (i < n → EJob rows (job_at l i) a) × (n ≤ i → a ≡ job_at l i)
 
-  pub edone_more : (k : ℕ) (b : Action) (cur new : Loaded) → k < 24 → EDone rows l k cur → EJob rows (job_at l k) b → new ≡ with_job cur k b → EDone rows l (k + 1) new
-  edone_more k b cur new m d f e = record { size = len; lent = ap (λ (x : Loaded). x.lent) e ∙ d.lent; below = λ i n. below i (below_suc i k (omega arith)); past = λ i n. other i (λ z. omega arith) ∙ d.past i (omega arith) }
+  pub edone_all : (n : ℕ) → n ≤ 24 → (new : List Action) → length l.jobs ≡ 24 → length new ≡ 24 → ((i : ℕ) → i < 24 → Turned n i (get_or new i no_job)) → EDone rows l n (record { jobs = new; lent = l.lent })
+  edone_all n t new e f h = record { size = f; lent = refl; below = λ i m. (h i (omega arith)).0 m; past = λ i m. past i m (dec_lt i 24) }
     where
-      len : length new.jobs ≡ 24
-      len = ap (λ (x : Loaded). length x.jobs) e ∙ (length-set cur.jobs k b ∙ d.size)
-
-      other : (i : ℕ) → (i ≡ k → ⊥) → job_at new i ≡ job_at cur i
-      other i n = ap (λ (x : Loaded). job_at x i) e ∙ get_or-set_other cur.jobs k i b no_job n
-
-      here : job_at new k ≡ b
-      here = ap (λ (x : Loaded). job_at x k) e ∙ get_or-set_same cur.jobs k b no_job (omega (arith, d.size))
-
-      below : (i : ℕ) → (i < k) ⊎ (i ≡ k) → EJob rows (job_at l i) (job_at new i)
-      below i (inl n) = subst (EJob rows (job_at l i)) (sym (other i (λ z. omega arith))) (d.below i n)
-      below i (inr n) = rw n (subst (EJob rows (job_at l k)) (sym here) f)
+      past : (i : ℕ) → n ≤ i → Dec (i < 24) → get_or new i no_job ≡ job_at l i
+      past i m (yes k) = (h i k).1 m
+      past i m (no k) = get_or-eq_default new no_job (omega (arith, f)) ∙ sym (get_or-eq_default l.jobs no_job (omega (arith, e)))
 
   -- but for their deletions the jobs are the same
   pub edone_rest : (n : ℕ) (r : Loaded) → EDone rows l n r → (i : ℕ) → job_at r i ≡ deleting (job_at l i) (job_at r i).deletions

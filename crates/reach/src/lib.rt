@@ -10,6 +10,7 @@ ghost use Rattle.tables.specs.Tables.{problem};
 ghost use Rattle.reach.specs.Reach.{Exact};
 ghost use Rattle.reach.specs.Rows.{in_rows, FitIn, Seen, StayBeside, grown_row, Grown, Looked, PairRound, Barred, EJob, EDone};
 
+use std::array;
 use tables::{Action, Ask, Loaded};
 
 // Bit q of row p: p and q can stand side by side.
@@ -23,22 +24,14 @@ fn row_fits(row: u64, c: u64, r: usize) -> bool
     requires { r < 64 }
     ensures { Decides result (T (has c r) → Covers row c) }
 {
-    if !facts::has(c, r) {
-        return true;
-    }
-    facts::covers(row, c)
+    !facts::has(c, r) || facts::covers(row, c)
 }
 
 // The facts of c are pairwise reachable.
 pub fn fits(s: PairRows, c: u64) -> bool
     ensures { Decides result (FitIn s.rows c 64) }
 {
-    for r in 0..64 {
-        if !row_fits(s.rows[r], c, r) {
-            return false;
-        }
-    }
-    true
+    (0..64).all(|r| row_fits(s.rows[r], c, r))
 }
 
 // Fact q is reachable, stays where the job finishes, and is reachable with all conditions.
@@ -46,25 +39,14 @@ fn stays_beside(row: u64, c: u64, d: u64, q: usize) -> bool
     requires { q < 64 }
     ensures { Decides result (Seen row c d q) }
 {
-    if facts::has(d, q) {
-        return false;
-    }
-    if !facts::has(row, q) {
-        return false;
-    }
-    facts::covers(row, c)
+    !facts::has(d, q) && facts::has(row, q) && facts::covers(row, c)
 }
 
 // The facts that stay beside a job with these conditions and deletions.
 fn beside(s: PairRows, c: u64, d: u64) -> u64
     ensures { StayBeside s.rows c d 64 result }
 {
-    let mut w: u64 = 0;
-    for q in 0..64 {
-        let hit = stays_beside(s.rows[q], c, d, q);
-        w = facts::with_if(w, q, hit);
-    }
-    w
+    facts::those(64, |q| stays_beside(s.rows[q], c, d, q))
 }
 
 // All facts of either.
@@ -93,25 +75,13 @@ fn grown_row(row: u64, a: u64, w: u64, p: usize) -> u64
     union_if(added, a, facts::has(w, p))
 }
 
-// Another row p.
-fn with_row(s: PairRows, p: usize, row: u64) -> PairRows
-    requires { p < 64 }
-    ensures { result.rows ≡ set s.rows p row }
-{
-    let mut t = s;
-    t.rows[p] = row;
-    t
-}
-
 // All rows with what a job adds, where the facts w stay beside it.
 fn grown(s: PairRows, a: u64, w: u64) -> PairRows
     ensures { Grown s.rows a w 64 result.rows }
 {
-    let mut t = s;
-    for p in 0..64 {
-        t = with_row(t, p, grown_row(s.rows[p], a, w, p));
+    PairRows {
+        rows: array::from_fn(|p| grown_row(s.rows[p], a, w, p)),
     }
-    t
 }
 
 // The pairs that a job gives.
@@ -124,7 +94,7 @@ fn look(s: PairRows, c: u64, a: u64, d: u64) -> PairRows
     grown(s, a, beside(s, c, d))
 }
 
-// The pairs that the jobs give, one after the other.
+// The pairs that the jobs give, one after the other: a loop, since a fold of the rows is no plainer.
 fn round(l: Loaded, q: Ask, s: PairRows) -> PairRows
     requires { (q.jobs ≤ 24) × InOrder (problem l q) }
     ensures { PairRound (problem l q) q.jobs s.rows result.rows }
@@ -142,12 +112,7 @@ fn round(l: Loaded, q: Ask, s: PairRows) -> PairRows
 fn within(t: PairRows, s: PairRows) -> bool
     ensures { Decides result ((p : ℕ) → p < 64 → Covers (get_or s.rows p 0) (get_or t.rows p 0)) }
 {
-    for p in 0..64 {
-        if !facts::covers(s.rows[p], t.rows[p]) {
-            return false;
-        }
-    }
-    true
+    (0..64).all(|p| facts::covers(s.rows[p], t.rows[p]))
 }
 
 // The pairs of opening facts.
@@ -178,7 +143,7 @@ fn barred(s: PairRows, w: u64) -> u64
     requires { length s.rows ≡ 64 }
     ensures { (p : ℕ) → Decides (has result p) (Barred s.rows w p) }
 {
-    facts::after(beside(s, 0, 0), 0, beside(s, w, 0))
+    facts::less(beside(s, 0, 0), beside(s, w, 0))
 }
 
 // The job, but it deletes what it e-deletes.
@@ -189,13 +154,10 @@ fn e_job(s: PairRows, a: Action) -> Action
         return a;
     }
     let adding = barred(s, a.additions);
-    let needing = facts::after(barred(s, a.conditions), 0, a.additions);
+    let needing = facts::less(barred(s, a.conditions), a.additions);
     Action {
-        conditions: a.conditions,
-        additions: a.additions,
         deletions: union(a.deletions, union(adding, needing)),
-        duration: a.duration,
-        release: a.release,
+        ..a
     }
 }
 
@@ -204,9 +166,12 @@ pub fn e_table(l: Loaded, jobs: usize, s: PairRows) -> Loaded
     requires { jobs ≤ 24 }
     ensures { EDone s.rows l jobs result }
 {
-    let mut t = l;
-    for i in 0..jobs {
-        t = tables::with_job(t, i, e_job(s, l.jobs[i]));
+    Loaded {
+        jobs: array::from_fn(|i| if i < jobs {
+            e_job(s, l.jobs[i])
+        } else {
+            l.jobs[i]
+        }),
+        ..l
     }
-    t
 }

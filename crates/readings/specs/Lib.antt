@@ -1,2 +1,3 @@
 pub mod Marks
 pub mod Opening
+pub mod Lent

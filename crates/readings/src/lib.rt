@@ -2,13 +2,13 @@
 
 #![tactic(auto)]
 
-ghost use Rattle.std.specs.Prelude.{◌≡◌, not, ◌&&◌, ◌||◌, ℕ, ◌<◌, ◌≤◌, eqb, ltb, length, get_or};
-ghost use Rattle.std.specs.Int.Signed.{le_z};
+ghost use Rattle.std.specs.Prelude.{◌≡◌, not, ◌&&◌, ◌||◌, ◌<◌, ◌≤◌, ltb};
 ghost use Rattle.facts.specs.Facts.{has};
 ghost use Rattle.facts.specs.Words.{Word};
-ghost use Rattle.facts.specs.Least.{least, any};
+ghost use Rattle.facts.specs.Tests.{some_least};
 ghost use Rattle.refusals.specs.Refusals.{accepted};
-ghost use Rattle.readings.specs.Marks.{marks_of, mark_at, outside, bad, on_channel, missed, met};
+ghost use Rattle.readings.specs.Marks.{marks_of, bad, on_channel, reached, missed, marked, met};
+ghost use Rattle.readings.specs.Lent.{marks_in, Readable};
 ghost use Rattle.readings.specs.Opening.{opened, word_of, mark_checks, opening_answer, Opens};
 
 // What the probe sends: degrees and per cent.
@@ -49,154 +49,130 @@ fn answered(number: u8, place: u16, facts: u64) -> Opening
     }
 }
 
-// Mark i of the three tables.
-fn mark_at(channels: &[u8], levels: &[i16], facts: &[u8], i: usize) -> Mark
-    requires { i < (marks_of channels.now levels.now facts.now 0).room }
-    ensures { result ≡ mark_at channels.now levels.now facts.now i }
-{
-    Mark {
-        channel: channels[i],
-        level: levels[i],
-        fact: facts[i],
-    }
+// The tenths of a reading in range.
+#[derive(Clone, Copy)]
+struct Tenths {
+    temperature: i16,
+    humidity: i16,
 }
 
-// A channel, a level or a fact is out of range.
-fn bad(channel: u8, level: i16, fact: u8) -> bool
-    ensures { result ≡ outside channel level fact }
-{
-    if channel > 1 {
-        return true;
-    }
-    if level < -1000 {
-        return true;
-    }
-    if level > 1000 {
-        return true;
-    }
-    fact >= 64
-}
-
-// The tenths of a channel.
-fn on_channel(temperature: i16, humidity: i16, channel: u8) -> i16
-    ensures { result ≡ on_channel temperature humidity channel }
-{
-    if channel == 0 { temperature } else { humidity }
-}
-
-// The tenths are at or above the level.
-fn reached(tenths: i16, level: i16) -> bool
-    ensures { result ≡ le_z level tenths }
-{
-    level <= tenths
-}
-
-// A mark sets its fact.
-fn set_fact(w: u64, fact: u8) -> u64
-    requires { fact < 64 }
-    ensures { Word (λ p. has w p || eqb p fact) result }
-{
-    facts::with(w, fact as usize)
-}
-
-// A mark that is missed clears its fact.
-fn clear_if_missed(w: u64, temperature: i16, humidity: i16, k: Mark) -> u64
-    requires { k.fact < 64 }
-    ensures { Word (λ p. has w p && not (missed temperature humidity p k)) result }
-{
-    if reached(on_channel(temperature, humidity, k.channel), k.level) {
-        return w;
-    }
-    facts::without(w, k.fact as usize)
-}
-
-// The lowest mark out of range, or the count.
-fn first_bad(channels: &[u8], levels: &[i16], facts: &[u8], count: usize) -> usize
-    requires { count ≤ (marks_of channels.now levels.now facts.now count).room }
-    ensures { result ≡ least (λ i. bad (mark_at channels.now levels.now facts.now i)) count }
-{
-    for i in 0..count {
-        let k = mark_at(channels, levels, facts, i);
-        if bad(k.channel, k.level, k.fact) {
-            return i;
+impl Tenths {
+    // The tenths of a channel.
+    fn on(self, channel: u8) -> i16
+        ensures { result ≡ on_channel self.temperature self.humidity channel }
+    {
+        if channel == 0 {
+            self.temperature
+        } else {
+            self.humidity
         }
     }
-    count
 }
 
-// The facts given, with every marked fact set.
-fn with_marked(given: u64, facts: &[u8], count: usize) -> u64
-    requires { (count ≤ length facts.now) × ((i : ℕ) → i < count → get_or facts.now i 0 < 64) }
-    ensures { Word (λ p. has given p || any (λ i. eqb p (get_or facts.now i 0)) count) result }
-{
-    let mut w = given;
-    for i in 0..count {
-        w = set_fact(w, facts[i]);
+impl Mark {
+    // Its channel, its level or its fact is out of range.
+    fn is_bad(self) -> bool
+        ensures { result ≡ bad self }
+    {
+        self.channel > 1 || self.level < -1000 || self.level > 1000 || self.fact >= 64
     }
-    w
+
+    // The tenths are at or above its level.
+    fn is_reached(self, tenths: Tenths) -> bool
+        ensures { result ≡ reached tenths.temperature tenths.humidity self }
+    {
+        self.level <= tenths.on(self.channel)
+    }
+
+    // The facts of w, but its own where it is missed.
+    fn clear_if_missed(self, w: u64, tenths: Tenths) -> u64
+        requires { self.fact < 64 }
+        ensures { Word (λ p. has w p && not (missed tenths.temperature tenths.humidity p self)) result }
+    {
+        if self.is_reached(tenths) {
+            return w;
+        }
+        facts::without(w, usize::from(self.fact))
+    }
 }
 
-// The facts of w but those that a mark misses.
-fn without_missed(
-    w: u64,
-    temperature: i16,
-    humidity: i16,
-    channels: &[u8],
-    levels: &[i16],
-    facts: &[u8],
+// The marks as they are lent: side by side in three tables, the first `count` of each.
+#[derive(Clone, Copy)]
+struct MarkTables<'a> {
+    channels: &'a [u8],
+    levels: &'a [i16],
+    facts: &'a [u8],
     count: usize,
-) -> u64
-    requires { (count ≤ (marks_of channels.now levels.now facts.now count).room) × ((i : ℕ) → i < count → get_or facts.now i 0 < 64) }
-    ensures { Word (λ p. has w p && met temperature humidity (marks_of channels.now levels.now facts.now count) p) result }
-{
-    let mut left = w;
-    for i in 0..count {
-        left = clear_if_missed(
-            left,
-            temperature,
-            humidity,
-            mark_at(channels, levels, facts, i),
-        );
-    }
-    left
 }
 
-// A table is shorter than the count.
-fn short(channels: &[u8], levels: &[i16], facts: &[u8], count: usize) -> bool
-    ensures { result ≡ ltb (marks_of channels.now levels.now facts.now count).room count }
-{
-    if channels.len() < count {
-        return true;
+impl<'a> MarkTables<'a> {
+    // A table is shorter than the count.
+    fn is_short(self) -> bool
+        ensures { result ≡ ltb (marks_in self.entry).room self.entry.count }
+    {
+        self.channels.len() < self.count
+            || self.levels.len() < self.count
+            || self.facts.len() < self.count
     }
-    if levels.len() < count {
-        return true;
-    }
-    facts.len() < count
-}
 
-// Behind the other checks: the lowest mark out of range, or the facts opened.
-fn by_marks(
-    temperature: i16,
-    humidity: i16,
-    channels: &[u8],
-    levels: &[i16],
-    facts: &[u8],
-    count: usize,
-    given: u64,
-) -> Opening
-    requires { (count ≤ 16) × (count ≤ (marks_of channels.now levels.now facts.now count).room) }
-    ensures { result ≡ opening_answer (mark_checks (marks_of channels.now levels.now facts.now count) accepted) (word_of (opened temperature humidity (marks_of channels.now levels.now facts.now count) given) 64) given }
-{
-    let lowest = first_bad(channels, levels, facts, count);
-    if lowest < count {
-        return answered(18, lowest as u16, given);
+    // Mark i.
+    fn at(self, i: usize) -> Mark
+        requires { i < (marks_in self).room }
+        ensures { result ≡ (marks_in self.entry).mark i }
+    {
+        Mark {
+            channel: self.channels[i],
+            level: self.levels[i],
+            fact: self.facts[i],
+        }
     }
-    let set = with_marked(given, facts, count);
-    let opened = without_missed(set, temperature, humidity, channels, levels, facts, count);
-    answered(0, 0, opened)
+
+    // The lowest mark out of range.
+    fn first_bad(self) -> Option<usize>
+        requires { self.count ≤ (marks_in self).room }
+        ensures { result ≡ some_least (λ i. bad ((marks_in self.entry).mark i)) self.entry.count }
+    {
+        facts::first(self.count, |i| self.at(i).is_bad())
+    }
+
+    // The facts given, with every marked fact set.
+    fn with_marked(self, given: u64) -> u64
+        requires { Readable (marks_in self) }
+        ensures { Word (λ p. has given p || marked (marks_in self.entry) p) result }
+    {
+        let mut w = given;
+        for i in 0..self.count {
+            w = facts::with(w, usize::from(self.at(i).fact));
+        }
+        w
+    }
+
+    // The facts of w but those that a mark misses.
+    fn without_missed(self, w: u64, tenths: Tenths) -> u64
+        requires { Readable (marks_in self) }
+        ensures { Word (λ p. has w p && met tenths.temperature tenths.humidity (marks_in self.entry) p) result }
+    {
+        let mut left = w;
+        for i in 0..self.count {
+            left = self.at(i).clear_if_missed(left, tenths);
+        }
+        left
+    }
+
+    // Behind the other checks: the lowest mark out of range, or the facts opened.
+    fn open(self, tenths: Tenths, given: u64) -> Opening
+        requires { (self.count ≤ 16) × (self.count ≤ (marks_in self).room) }
+        ensures { result ≡ opening_answer (mark_checks (marks_in self.entry) accepted) (word_of (opened tenths.temperature tenths.humidity (marks_in self.entry) given) 64) given }
+    {
+        if let Some(i) = self.first_bad() {
+            return answered(18, i as u16, given);
+        }
+        answered(0, 0, self.without_missed(self.with_marked(given), tenths))
+    }
 }
 
 // Opening facts from a reading. The marks stand side by side in the three tables, the first `count` of each.
+#[tactic(auto, unfolding(crate::specs::Opening::opening_checks, refusals::specs::Refusals::refuse_if))]
 pub fn opening_facts(
     reading: BenchReading,
     channels: &[u8],
@@ -207,7 +183,13 @@ pub fn opening_facts(
 ) -> Opening
     ensures { Opens reading (marks_of channels.now levels.now facts.now count) given result }
 {
-    if short(channels, levels, facts, count) {
+    let marks = MarkTables {
+        channels,
+        levels,
+        facts,
+        count,
+    };
+    if marks.is_short() {
         return answered(3, 0, given);
     }
     let temperature = tenths::measure(reading.temperature);
@@ -221,13 +203,9 @@ pub fn opening_facts(
     if count > 16 {
         return answered(18, 16, given);
     }
-    by_marks(
-        temperature.tenths,
-        humidity.tenths,
-        channels,
-        levels,
-        facts,
-        count,
-        given,
-    )
+    let tenths = Tenths {
+        temperature: temperature.tenths,
+        humidity: humidity.tenths,
+    };
+    marks.open(tenths, given)
 }

@@ -1,7 +1,6 @@
 -- From the steps to the promises of both calls.
 -- Assumes nothing.
 use mathlib.Core.Path.{◌≡◌, sym, ap, ◌∙◌, subst}
-use mathlib.Core.Logic.{inl, inr}
 use mathlib.Core.Bool.{Bool, false, ◌&&◌, cond}
 use mathlib.Core.List.{List, []}
 use Prim.Native.Nat.{ℕ, ◌≤◌, ◌<◌}
@@ -12,13 +11,11 @@ use Rattle.facts.specs.Facts.{has}
 use Rattle.facts.specs.Least.{least, any}
 use Rattle.facts.proofs.Bools.{same, eqb_of, chosen, unchosen}
 use Rattle.facts.proofs.Least.{least_same, found_any, found_none}
-use Rattle.refusals.specs.Refusals.{Verdict, accepted, refused, Ruled}
+use Rattle.refusals.specs.Refusals.{Verdict, accepted, refused}
 use Rattle.refusals.proofs.Refused.{went_on}
 use Rattle.rules.specs.declared.Hindrance.TheVariants.{Never, TooDear, Neither}
 use Rattle.rules.specs.Table.{Problem}
-use Rattle.rules.specs.Plans.{Plan}
 use Rattle.rules.specs.Estimates.{cost, Estimates}
-use Rattle.rules.specs.Settling.{Obeys, Settled}
 use Rattle.rules.specs.Reasons.{Chain, Explained, unsettled, outside, explained, never_reached, above_bound, hindrance_of}
 use Rattle.rules.proofs.Early.{cost_cap}
 use Rattle.tables.specs.declared.Loaded.{Loaded}
@@ -29,11 +26,10 @@ use Rattle.tables.specs.Steps.{Judges, Cleared}
 use Rattle.tables.proofs.Laws.{said, numbered, changed_new, changed_old}
 use Rattle.entries.specs.Entries.{entry}
 use Rattle.times.specs.Times.{wanted}
-use Rattle.settle.specs.declared.Settlement.{Settlement}
 use Rattle.settle.specs.Settle.{settling_checks}
-use Rattle.settle.specs.Steps.{Settlements}
+use Rattle.settle.specs.Steps.{SettledAs, Refuses}
 use Rattle.settle.proofs.Faults.{all_checks}
-use Rattle.settle.proofs.Starts.{with_starts}
+use Rattle.settle.proofs.Starts.{ready}
 use Rattle.estimates.specs.Rounds.{Costs}
 use Rattle.reasons.specs.declared.Question.{Question}
 use Rattle.reasons.specs.declared.Reason.{Reason}
@@ -42,7 +38,7 @@ use Rattle.reasons.specs.Steps.{Explainable}
 
 -- ── why a job starts when it does ──
 
-module _ (l : Loaded) (q : Question) (bytes old : List ℕ) (r : Settlement) (s : Settlements l q.ask bytes (length old) r) where
+module _ (l : Loaded) (q : Question) (bytes old : List ℕ) where
   abbrev C : Verdict → Verdict
   C = settling_checks l q.ask bytes (length old)
 
@@ -50,59 +46,48 @@ module _ (l : Loaded) (q : Question) (bytes old : List ℕ) (r : Settlement) (s 
   Answers v m = Explained (problem l q.ask) (wanted l q.ask bytes) q.job v m
 
   -- settling refuses
-  pub not_settled : (r.answer.number ≡ 0 → ⊥) → WhyStart l q bytes old old r.answer
-  not_settled n = record {
+  pub not_settled : (a : Answer) → Refuses l q.ask bytes (length old) a → WhyStart l q bytes old old a
+  not_settled a s = record {
     v = s.v;
     chain = [];
-    behind = λ c. by c (s.behind c);
+    behind = λ c. (let f = s.behind c in subst (λ (v : Verdict). Answers v []) (sym f.0) (unsettled f.1));
     says = s.says;
-    leaves = sym (changed_old (C s.v) (written [] old) old (λ z. n (numbered 0 0 s.says ∙ z)));
+    leaves = sym (changed_old (C s.v) (written [] old) old (λ z. (let m : 0 < a.number = s.above in omega (arith, numbered 0 0 s.says, z))));
   }
-    where
-      on : C accepted ≡ accepted → C s.v ≡ s.v
-      on c = went_on C (all_checks l q.ask bytes (length old)) (ap (λ (v : Verdict). v.number) c) s.v
 
-      by : C accepted ≡ accepted → Ruled s.v (Settled (problem l q.ask) (wanted l q.ask bytes) (entry r.starts)) 16 ((y : Plan) → Obeys (problem l q.ask) (wanted l q.ask bytes) y → ⊥) → Answers s.v []
-      by c (inl (e, f)) = absurd (n (numbered 0 0 s.says ∙ ap (λ (v : Verdict). v.number) (on c ∙ e)))
-      by c (inr (e, f)) = subst (λ (v : Verdict). Answers v []) (sym e) (unsettled f)
-
-  -- settling accepts
-  module _ (z : r.answer.number ≡ 0) where
+  -- settling gives starts
+  module _ (z : List ℕ) (s : SettledAs l q.ask bytes (length old) z) where
     on : (v : Verdict) → C v ≡ v
-    on = went_on C (all_checks l q.ask bytes (length old)) (ap (λ (v : Verdict). v.number) (with_starts l q.ask bytes (length old) r s z).checks)
+    on = went_on C (all_checks l q.ask bytes (length old)) (ap (λ (v : Verdict). v.number) s.checks)
 
-    pub explainable : T (has q.ask.set q.job) → Explainable l q.ask bytes (entry r.starts) q.job
-    explainable t = let w = with_starts l q.ask bytes (length old) r s z in record { ready = w.ready.ready; order = w.ready.clear.order; settled = w.starts; member = t }
+    pub explainable : T (has q.ask.set q.job) → Explainable l q.ask bytes (entry z) q.job
+    explainable t = let w = ready l q.ask bytes (length old) z s in record { ready = w.ready; order = w.clear.order; settled = s.settled; member = t }
 
     pub lent : q.ask.jobs ≤ length old
-    lent = (with_starts l q.ask bytes (length old) r s z).ready.wide
+    lent = (ready l q.ask bytes (length old) z s).wide
 
     -- the job is outside the set
     pub not_in_set : {a : Answer} → (T (has q.ask.set q.job) → ⊥) → a ≡ answer_of (refused 27 q.job) 0 0 → WhyStart l q bytes old old a
     not_in_set n d = record {
       v = refused 27 q.job;
       chain = [];
-      behind = λ c. outside (with_starts l q.ask bytes (length old) r s z).starts n;
+      behind = λ c. outside s.settled n;
       says = d ∙ said 0 0 (on (refused 27 q.job));
       leaves = sym (changed_old (C (refused 27 q.job)) (written [] old) old (λ y. (let e : 27 ≡ 0 = ap (λ (v : Verdict). v.number) (sym (on (refused 27 q.job))) ∙ y in omega arith)));
     }
 
     -- the chain is given
-    pub chain_given : {a : Answer} {new : List ℕ} (m : List ℕ) → T (has q.ask.set q.job) → Chain (problem l q.ask) (wanted l q.ask bytes) (entry r.starts) q.job m
+    pub chain_given : {a : Answer} {new : List ℕ} (m : List ℕ) → T (has q.ask.set q.job) → Chain (problem l q.ask) (wanted l q.ask bytes) (entry z) q.job m
         → a ≡ answer_of accepted (length m) 0 → new ≡ written m old → WhyStart l q bytes old new a
     chain_given m t c d e = record {
       v = accepted;
       chain = m;
-      behind = λ _. explained (with_starts l q.ask bytes (length old) r s z).starts t c;
+      behind = λ _. explained s.settled t c;
       says = d ∙ said (length m) 0 (on accepted);
       leaves = e ∙ sym (changed_new (C accepted) (written m old) old (ap (λ (v : Verdict). v.number) (on accepted)));
     }
 
 -- ── why there is no plan ──
-
--- a reason with another answer that is the same
-pub reason_by : {a b : Answer} (kind fact : ℕ) → a ≡ b → ◌≡◌ {A = Reason} (record { answer = a; kind = kind; fact = fact }) (record { answer = b; kind = kind; fact = fact })
-reason_by kind fact e = ap (λ (x : Answer). record { answer = x; kind = kind; fact = fact }) e
 
 -- what costs 65,535 is what costs more than 65,534
 pub never_above : (P : Problem) (est : ℕ → ℕ) (p : ℕ) → (has P.goals p && ltb 65534 (cost P est p)) ≡ never_reached P est p
@@ -111,7 +96,7 @@ never_above P est p = ap (λ (b : Bool). has P.goals p && b)
 
 module _ (P : Problem) (est : ℕ → ℕ) (bound : ℕ) (costs : List ℕ) (k : Costs (cost P est) costs 64) where
   -- the goals above a limit, by the costs worked out
-  abbrev over : ℕ → ℕ → Bool
+  abbrev pub over : ℕ → ℕ → Bool
   over limit p = has P.goals p && ltb limit (entry costs p)
 
   by_costs : (limit p : ℕ) → p < 64 → over limit p ≡ (has P.goals p && ltb limit (cost P est p))

@@ -4,7 +4,7 @@
 
 ghost use Rattle.std.specs.Prelude.{◌≡◌, ◌&&◌, ◌+◌, ◌≤◌, ◌<◌, eqb, ltb, length};
 ghost use Rattle.facts.specs.Facts.{has};
-ghost use Rattle.facts.specs.Least.{least};
+ghost use Rattle.facts.specs.Tests.{some_least};
 ghost use Rattle.facts.specs.Words.{Word};
 ghost use Rattle.rules.specs.Plans.{finish};
 ghost use Rattle.rules.specs.Reasons.{fits_before, Chain, hindrance_of};
@@ -26,11 +26,18 @@ pub struct Question {
     pub job: u8,
 }
 
-// A chain as it is gone back: the job asked about first, the first `count` of them.
+// A chain as it is gone back: the job asked about first, the first `count` of them. An array, since memory is fixed and a chain has at most 24 jobs.
 #[derive(Clone, Copy)]
 pub struct Back {
     pub jobs: [u8; 24],
     pub count: usize,
+}
+
+// A job starts just when another has finished, with the gap.
+fn follows(start: u16, before: u16, duration: u16, gap: u16) -> bool
+    ensures { result ≡ eqb start (before + duration + gap) }
+{
+    u32::from(start) == u32::from(before) + u32::from(duration) + u32::from(gap)
 }
 
 // The second job of the pair a, b is job j, which starts where a has finished, with the gap.
@@ -38,12 +45,7 @@ fn fits(l: Loaded, q: Ask, z: [u16; 24], a: usize, b: usize, j: usize) -> bool
     requires { (a < 24) × (j < 24) }
     ensures { result ≡ (eqb b j && eqb (entry z j) (finish (problem l q) (entry z) a + (problem l q).gap)) }
 {
-    if b != j {
-        return false;
-    }
-    let first = l.jobs[a];
-    let end = entries::wide(z[a]) + entries::wide(first.duration);
-    entries::wide(z[j]) == end + entries::wide(tables::gap(q))
+    b == j && follows(z[j], z[a], l.jobs[a].duration, tables::gap(q))
 }
 
 // The jobs that fit before job j.
@@ -51,12 +53,10 @@ fn fitting(l: Loaded, q: Ask, pairs: &[u8], z: [u16; 24], j: usize) -> u64
     requires { Ready q pairs.now × (j < 24) }
     ensures { Word (λ a. fits_before (problem l q) (wanted l q pairs.now) (entry z) a j) result }
 {
-    let n = q.pairs;
     let mut w = 0u64;
-    for k in 0..n {
-        let at = 2 * k;
-        let a = times::job(pairs[at]);
-        let b = times::job(pairs[at + 1]);
+    for k in 0..q.pairs {
+        let a = usize::from(pairs[2 * k]);
+        let b = usize::from(pairs[2 * k + 1]);
         w = facts::with_if(w, a, fits(l, q, z, a, b, j));
     }
     w
@@ -97,16 +97,14 @@ pub fn why_start(l: Loaded, q: Question, pairs: &[u8], out: &mut [u8]) -> Answer
     ensures { WhyStart l q pairs.now out.old out.new result }
 {
     let ask = q.ask;
-    let r = settle::settled(l, ask, pairs, out.len());
-    let answer = r.answer;
-    if answer.number != 0 {
-        return answer;
-    }
+    let z = match settle::settled(l, ask, pairs, out.len()) {
+        Ok(starts) => starts,
+        Err(answer) => return answer,
+    };
     if !settle::in_set(ask.set, q.job) {
-        return tables::refuse(27, q.job as u16, 0);
+        return tables::refuse(27, u16::from(q.job), 0);
     }
-    let z = r.starts;
-    let c = go_back(l, ask, pairs, z, q.job as usize);
+    let c = go_back(l, ask, pairs, z, usize::from(q.job));
     fill_chain(out, c);
     tables::done(c.count as u32)
 }
@@ -116,22 +114,14 @@ fn above(goals: u64, p: usize, cost: u16, limit: u16) -> bool
     requires { p < 64 }
     ensures { result ≡ (has goals p && ltb limit cost) }
 {
-    if facts::has(goals, p) {
-        return limit < cost;
-    }
-    false
+    facts::has(goals, p) && limit < cost
 }
 
-// The lowest goal that costs more than the limit, 64 for none.
-fn first_above(goals: u64, costs: [u16; 64], limit: u16) -> usize
-    ensures { result ≡ least (λ p. has goals p && ltb limit (entry costs p)) 64 }
+// The lowest goal that costs more than the limit.
+fn first_above(goals: u64, costs: [u16; 64], limit: u16) -> Option<usize>
+    ensures { result ≡ some_least (λ p. has goals p && ltb limit (entry costs p)) 64 }
 {
-    for p in 0..64 {
-        if above(goals, p, costs[p], limit) {
-            return p;
-        }
-    }
-    64
+    facts::first(64, |p| above(goals, p, costs[p], limit))
 }
 
 // Why there is no plan within the bound, by the estimates; what is never reachable costs 65,535.
@@ -140,15 +130,13 @@ fn hindrance(l: Loaded, q: Ask, est: [u16; 24]) -> Hindrance
     ensures { result ≡ hindrance_of (problem l q) (entry est) q.bound }
 {
     let costs = estimates::fact_costs(l, q, est);
-    let never = first_above(q.goals, costs, 65534);
-    if never < 64 {
-        return Hindrance::Never(never as u8);
+    if let Some(goal) = first_above(q.goals, costs, 65534) {
+        return Hindrance::Never(goal as u8);
     }
-    let dear = first_above(q.goals, costs, q.bound);
-    if dear < 64 {
-        return Hindrance::TooDear(dear as u8);
+    match first_above(q.goals, costs, q.bound) {
+        Some(goal) => Hindrance::TooDear(goal as u8),
+        None => Hindrance::Neither,
     }
-    Hindrance::Neither
 }
 
 // What is said of the want of a plan, and a reason for it as kind and fact: 64 where no fact is named.
@@ -171,27 +159,20 @@ fn no_reason(answer: Answer) -> Reason
     }
 }
 
-// The reason as numbers.
-fn reason_of(h: Hindrance) -> Reason
-    ensures { result ≡ reason_of h }
-{
-    let answer = tables::done(0);
-    match h {
-        Hindrance::Never(fact) => Reason {
-            answer,
-            kind: 1,
+impl From<Hindrance> for Reason {
+    ghost from_gives = { λ h said. said ≡ reason_of h };
+
+    fn from(h: Hindrance) -> Reason {
+        let (kind, fact) = match h {
+            Hindrance::Never(fact) => (1, fact),
+            Hindrance::TooDear(fact) => (2, fact),
+            Hindrance::Neither => (3, 64),
+        };
+        Reason {
+            answer: tables::done(0),
+            kind,
             fact,
-        },
-        Hindrance::TooDear(fact) => Reason {
-            answer,
-            kind: 2,
-            fact,
-        },
-        Hindrance::Neither => Reason {
-            answer,
-            kind: 3,
-            fact: 64,
-        },
+        }
     }
 }
 
@@ -204,5 +185,5 @@ pub fn why_no_plan(l: Loaded, q: Ask) -> Reason
         return no_reason(fault);
     }
     let est = estimates::estimate_all(l, q);
-    reason_of(hindrance(l, q, est))
+    hindrance(l, q, est).into()
 }

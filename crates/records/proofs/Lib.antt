@@ -1,3 +1,2 @@
-pub mod Laws
 pub mod Lies
 pub mod Only

@@ -13,15 +13,10 @@ pub fn load(t: &[Action]) -> Loaded
     ensures { result ≡ loaded t.now }
 {
     let lent = t.len();
-    let n = tables::held(lent);
-    let mut l = tables::no_jobs(lent);
-    let mut i = 0;
-    while i < n {
-        let a = t[i];
-        l = tables::with_job(l, i, a);
-        i = i + 1;
-    }
-    l
+    let n = lent.min(24);
+    let mut jobs = tables::no_jobs(lent).jobs;
+    jobs[..n].copy_from_slice(&t[..n]);
+    Loaded { jobs, lent }
 }
 
 // The first n jobs go into the lent records.
@@ -29,10 +24,5 @@ pub fn scatter(t: &mut [Action], l: Loaded, n: usize)
     requires { (n ≤ 24) × (n ≤ length t.old) }
     ensures { t.new ≡ filled (job_at l) n t.old }
 {
-    let mut i = 0;
-    while i < n {
-        let a = tables::job_at(l, i);
-        t[i] = a;
-        i = i + 1;
-    }
+    t[..n].copy_from_slice(&l.jobs[..n]);
 }

@@ -6,8 +6,11 @@ use mathlib.Core.Bool.{Bool, true, false, cond}
 use Prim.Native.Nat.{ℕ, ◌≤◌, ◌<◌}
 use lib.Dec.{T}
 use Rattle.facts.specs.Least.{least, any}
+use Rattle.facts.specs.Tests.{some_least}
+use Rattle.std.specs.Prelude.{Option, Some, None}
+use native.Mathlib.Nat.{le_refl}
 use Rattle.facts.proofs.Bools.{chosen, unchosen}
-use Rattle.facts.proofs.Least.{found_any, found_none}
+use Rattle.facts.proofs.Least.{found_any, found_none, first_some, first_none}
 use Rattle.refusals.specs.Refusals.{Verdict, accepted, refused, refused_for, refuse_if, refuse_for, refuse_at, Ruled}
 
 -- a check that does not pass goes on
@@ -46,6 +49,21 @@ at_hit f m n v e l = for_hit f (λ k. 0) m n v e l
 pub at_miss : (f : ℕ → Bool) (m n : ℕ) (v : Verdict) {r : ℕ} → r ≡ least f m → m ≤ r → refuse_at f m n v ≡ v
 unfolding refuse_at
 at_miss f m n v e l = for_miss f (λ k. 0) m n v e l
+
+-- by the first place that code found, if there is one
+pub for_some : (f : ℕ → Bool) (x : ℕ → ℕ) (m n : ℕ) (v : Verdict) {r : Option ℕ} {i : ℕ} → r ≡ some_least f m → r ≡ Some i → refuse_for f x m n v ≡ refused_for n (x i) i
+for_some f x m n v e h = let k = first_some f m e h in for_hit f x m n v k.0 k.1
+
+pub for_none : (f : ℕ → Bool) (x : ℕ → ℕ) (m n : ℕ) (v : Verdict) {r : Option ℕ} → r ≡ some_least f m → r ≡ None → refuse_for f x m n v ≡ v
+for_none f x m n v e h = for_miss f x m n v (first_none f m e h) (le_refl m)
+
+pub at_some : (f : ℕ → Bool) (m n : ℕ) (v : Verdict) {r : Option ℕ} {i : ℕ} → r ≡ some_least f m → r ≡ Some i → refuse_at f m n v ≡ refused n i
+unfolding refuse_at
+at_some f m n v e h = for_some f (λ k. 0) m n v e h
+
+pub at_none : (f : ℕ → Bool) (m n : ℕ) (v : Verdict) {r : Option ℕ} → r ≡ some_least f m → r ≡ None → refuse_at f m n v ≡ v
+unfolding refuse_at
+at_none f m n v e h = for_none f (λ k. 0) m n v e h
 
 -- where the list accepts, this check passed and the rest accepts
 pub if_zero : (b : Bool) (n k : ℕ) (v : Verdict) → n ≢ 0 → refuse_if b n k v ≡ accepted → (T b → ⊥) × (v ≡ accepted)

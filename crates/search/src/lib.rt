@@ -4,33 +4,36 @@
 
 ghost use Rattle.lent.specs.Lent.{Lent};
 ghost use Rattle.leaves.specs.Leaf.{Resolves, AtRest, SettledBy};
-ghost use Rattle.search.specs.Search.{Some, FreeChoice, Tries, FirstRepair, SecondRepair};
+ghost use Rattle.flaws.specs.Flaw.{Free};
+ghost use Rattle.search.specs.Search.{Some, Tries, FirstRepair, SecondRepair};
 
 use cells::State;
-use flaws::Choice;
+use flaws::{Choice, Repair};
 use lent::Tables;
 
 // The first repair: the job is in, or x is over before y.
-fn taken(s: &mut State, c: Choice)
-    requires { FreeChoice s.old c }
-    ensures { Tries (FirstRepair c) s.old s.new }
+fn taken(s: &mut State, r: Repair)
+    requires { Free s.old r }
+    ensures { Tries (FirstRepair r) s.old s.new }
 {
-    cells::put_inside(s, c.x);
-    if c.kind != flaws::JOB {
-        cells::put_sure(s, c.x, c.y);
+    match r {
+        Repair::Job(x) => cells::put_inside(s, x),
+        Repair::Pair(x, y) => {
+            cells::put_inside(s, x);
+            cells::put_sure(s, x, y);
+        }
     }
 }
 
 // The second repair: the job is out, or x is not over before y.
-fn dropped(s: &mut State, c: Choice)
-    requires { FreeChoice s.old c }
-    ensures { Tries (SecondRepair c) s.old s.new }
+fn dropped(s: &mut State, r: Repair)
+    requires { Free s.old r }
+    ensures { Tries (SecondRepair r) s.old s.new }
 {
-    if c.kind == flaws::JOB {
-        cells::put_barred(s, c.x);
-        return;
+    match r {
+        Repair::Job(x) => cells::put_barred(s, x),
+        Repair::Pair(x, y) => cells::put_never(s, x, y),
     }
-    cells::put_never(s, c.x, c.y);
 }
 
 // The state pruned and settled, the first plan kept; false where it is not left. Called in several places, so that it is not taken into the recursion.
@@ -38,10 +41,7 @@ pub fn pruned(s: &mut State, t: &Tables) -> bool
     ensures { SettledBy t.now s.old s.new result }
 {
     prune::tighten(s, t);
-    if orders::broken(s) {
-        return false;
-    }
-    leaves::settle(s, t)
+    !orders::broken(s) && leaves::settle(s, t)
 }
 
 // A plan that stays in the pruned state, or that there is none: a flaw is picked.
@@ -53,29 +53,26 @@ fn pick(s: &mut State, alive: bool, t: &Tables, out: &mut [u16; 24]) -> bool
     if !alive {
         return false;
     }
-    let c = flaws::flaw(s, t);
-    if c.kind == flaws::FINE {
-        return leaves::leaf(s, t, out);
+    match flaws::flaw(s, t) {
+        Choice::Fine => leaves::leaf(s, t, out),
+        Choice::Lost => false,
+        Choice::Open(r) => attempt(s, r, t, out),
     }
-    if c.kind == flaws::DEAD {
-        return false;
-    }
-    attempt(s, c, t, out)
 }
 
 // Its repairs are tried in turn, the first on a copy.
 #[cycle(attempt_pick)]
-fn attempt(s: &mut State, c: Choice, t: &Tables, out: &mut [u16; 24]) -> bool
-    requires { FreeChoice s.old c × Some (Lent t.now) }
+fn attempt(s: &mut State, r: Repair, t: &Tables, out: &mut [u16; 24]) -> bool
+    requires { Free s.old r × Some (Lent t.now) }
     ensures { Resolves (Lent t.now) s.old out.old out.new result }
 {
     let mut u = *s;
-    taken(&mut u, c);
+    taken(&mut u, r);
     let alive = pruned(&mut u, t);
     if pick(&mut u, alive, t, out) {
         return true;
     }
-    dropped(s, c);
+    dropped(s, r);
     let left = pruned(s, t);
     pick(s, left, t, out)
 }

@@ -2,9 +2,9 @@
 
 #![tactic(auto)]
 
-ghost use Rattle.std.specs.Prelude.{◌≡◌, not, ◌&&◌, ◌||◌, ◌/◌, ◌≤◌, ltb, length};
+ghost use Rattle.std.specs.Prelude.{◌≡◌, not, ◌&&◌, ◌||◌, ◌/◌, ◌≤◌, ◌<◌, ltb, length};
 ghost use Rattle.facts.specs.Facts.{has};
-ghost use Rattle.facts.specs.Least.{least};
+ghost use Rattle.facts.specs.Tests.{some_least};
 ghost use Rattle.refusals.specs.Refusals.{accepted};
 ghost use Rattle.rules.specs.Settling.{settle_checks};
 ghost use Rattle.tables.specs.Tables.{problem, answer_of};
@@ -20,34 +20,23 @@ use tables::{Answer, Ask, Loaded};
 pub fn in_set(set: u64, j: u8) -> bool
     ensures { result ≡ has set j }
 {
-    if 64 <= j {
-        return false;
-    }
-    facts::has(set, j as usize)
+    j < 64 && facts::has(set, usize::from(j))
 }
 
-// The pair of a and b names a job outside the set.
-fn pair_outside(set: u64, a: u8, b: u8) -> bool
-    ensures { result ≡ not (has set a && has set b) }
+// Pair k names a job outside the set.
+fn pair_outside(set: u64, pairs: &[u8], k: usize) -> bool
+    requires { k < length pairs.now / 2 }
+    ensures { result ≡ not (has set (pair_first pairs.now k) && has set (pair_second pairs.now k)) }
 {
-    if in_set(set, a) {
-        return !in_set(set, b);
-    }
-    true
+    !(in_set(set, pairs[2 * k]) && in_set(set, pairs[2 * k + 1]))
 }
 
-// The first of n pairs that does, or n.
-fn first_outside(set: u64, pairs: &[u8], n: usize) -> usize
+// The first of n pairs that does.
+fn first_outside(set: u64, pairs: &[u8], n: usize) -> Option<usize>
     requires { n ≤ length pairs.now / 2 }
-    ensures { result ≡ least (λ k. not (has set (pair_first pairs.now k) && has set (pair_second pairs.now k))) n }
+    ensures { result ≡ some_least (λ k. not (has set (pair_first pairs.now k) && has set (pair_second pairs.now k))) n }
 {
-    for k in 0..n {
-        let at = 2 * k;
-        if pair_outside(set, pairs[at], pairs[at + 1]) {
-            return k;
-        }
-    }
-    n
+    facts::first(n, |k| pair_outside(set, pairs, k))
 }
 
 // Check 15.
@@ -62,8 +51,7 @@ fn pairs_fault(q: Ask, pairs: &[u8]) -> Answer
     if 600 < n {
         return tables::refuse(15, 600, 0);
     }
-    let k = first_outside(q.set, pairs, n);
-    if k < n {
+    if let Some(k) = first_outside(q.set, pairs, n) {
         return tables::refuse(15, k as u16, 0);
     }
     tables::done(0)
@@ -88,45 +76,26 @@ fn settle_fault(l: Loaded, q: Ask, pairs: &[u8], out: usize) -> Answer
     pairs_fault(q, pairs)
 }
 
-// What settling says, and the starts where it accepts.
-#[derive(Clone, Copy)]
-pub struct Settlement {
-    pub answer: Answer,
-    pub starts: [u16; 24],
-}
-
-// The least starts by value; `room` is how many numbers are lent for them.
-pub fn settled(l: Loaded, q: Ask, pairs: &[u8], room: usize) -> Settlement
+// The least starts by value, or the refusal; `room` is how many numbers are lent for them.
+pub fn settled(l: Loaded, q: Ask, pairs: &[u8], room: usize) -> Result<[u16; 24], Answer>
     ensures { Settlements l q pairs.now room result }
 {
     let answer = settle_fault(l, q, pairs, room);
     if answer.number != 0 {
-        let starts = [65535u16; 24];
-        return Settlement { answer, starts };
+        return Err(answer);
     }
-    let r = times::least_starts(l, q, pairs);
-    let starts = r.starts;
-    let ok = r.ok;
-    if !ok {
-        let none = tables::refuse(16, 0, 0);
-        return Settlement {
-            answer: none,
-            starts,
-        };
-    }
-    Settlement { answer, starts }
+    times::least_starts(l, q, pairs).ok_or(tables::refuse(16, 0, 0))
 }
 
 // The least starts, one a job, into lent memory.
 pub fn settle(l: Loaded, q: Ask, pairs: &[u8], out: &mut [u16]) -> Answer
     ensures { Settling l q pairs.now out.old out.new result }
 {
-    let r = settled(l, q, pairs, out.len());
-    let answer = r.answer;
-    if answer.number != 0 {
-        return answer;
+    match settled(l, q, pairs, out.len()) {
+        Ok(starts) => {
+            entries::fill(out, starts, q.jobs);
+            tables::done(0)
+        }
+        Err(answer) => answer,
     }
-    let starts = r.starts;
-    entries::fill(out, starts, q.jobs);
-    answer
 }

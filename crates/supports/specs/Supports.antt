@@ -1,12 +1,20 @@
 -- Candidates for a support, as words of jobs.
 -- Assumes nothing.
-use Rattle.std.specs.Prelude.{◌≡◌, ◌≢◌, Bool, true, false, List, ℕ, ◌≤◌, ◌<◌, T}
+use Rattle.std.specs.Prelude.{◌≡◌, ◌⊎◌, ◌≢◌, Bool, true, false, List, ℕ, ◌≤◌, ◌<◌, T}
 use Rattle.std.specs.Int.Bits.{bit_and}
+use Rattle.facts.specs.Facts.{has}
 use Rattle.rules.specs.Supports.{Support}
 use Rattle.states.specs.State.{Search, surely_done, surely_late, useless, Killer, JobMay, May}
 use Rattle.cells.specs.View.{view, word_at, nevers}
 use Rattle.lent.specs.Lent.{Cols, Gives}
 use Rattle.lent.specs.Consumers.{who_at}
+
+-- ── a word that is sifted ──
+
+-- w holds the jobs of the word `all` that passed a test; of each, its answer
+pub record Sifts (answer : ℕ → Bool → Type 0) (all w : ℕ) : Type 0 where
+  pub of : (i : ℕ) → T (has w i) → T (has all i) × (i < 24) × answer i true
+  pub at : (i : ℕ) → i < 24 → T (has all i) → T (has w i) ⊎ answer i false
 
 -- ── what is asked of one job ──
 

@@ -8,7 +8,7 @@ ghost use Rattle.states.specs.State.{Search, surely_late, surely_done, useless, 
 ghost use Rattle.cells.specs.View.{view};
 ghost use Rattle.lent.specs.Lent.{Cols, Kills, Lent};
 ghost use Rattle.lent.specs.Consumers.{who_at};
-ghost use Rattle.supports.specs.Supports.{OtherThreat, Threat, Danger, Candidate, FairSupport, Sight};
+ghost use Rattle.supports.specs.Supports.{Sifts, OtherThreat, Threat, Danger, Candidate, FairSupport, Sight};
 
 use cells::State;
 use lent::Tables;
@@ -18,10 +18,7 @@ pub fn there_for(s: &State, b: usize) -> bool
     requires { b ≤ 24 }
     ensures { result ≡ there (view s.now) (who_at b) }
 {
-    if b == 24 {
-        return true;
-    }
-    cells::inside(s, b)
+    b == 24 || cells::inside(s, b)
 }
 
 // The consumer b is surely not over before d.
@@ -29,10 +26,7 @@ pub fn late_for(s: &State, b: usize, d: usize) -> bool
     requires { (b ≤ 24) × (d < 24) }
     ensures { result ≡ surely_late (view s.now) (who_at b) d }
 {
-    if b == 24 {
-        return true;
-    }
-    cells::never(s, b, d)
+    b == 24 || cells::never(s, b, d)
 }
 
 // The consumer b is surely over before d starts; End never is.
@@ -40,10 +34,7 @@ fn done_for(s: &State, b: usize, d: usize) -> bool
     requires { (b ≤ 24) × (d < 24) }
     ensures { result ≡ surely_done (view s.now) (who_at b) d }
 {
-    if b == 24 {
-        return false;
-    }
-    cells::sure(s, b, d)
+    b != 24 && cells::sure(s, b, d)
 }
 
 // Job a is surely not over before the consumer b.
@@ -51,10 +42,7 @@ fn useless_for(s: &State, a: usize, b: usize) -> bool
     requires { (b ≤ 24) × (a < 24) }
     ensures { result ≡ useless (view s.now) a (who_at b) }
 {
-    if b == 24 {
-        return false;
-    }
-    cells::never(s, a, b)
+    b != 24 && cells::never(s, a, b)
 }
 
 // Job a is surely over before the consumer b.
@@ -62,27 +50,36 @@ pub fn serves_for(s: &State, a: usize, b: usize) -> bool
     requires { (b ≤ 24) × (a < 24) }
     ensures { result ≡ serves (view s.now) a (who_at b) }
 {
-    if b == 24 {
-        return true;
-    }
-    cells::sure(s, a, b)
+    b == 24 || cells::sure(s, a, b)
 }
 
-// Another job d, before which the consumer is surely not over, or not surely over.
+// The jobs of the word that pass the test.
+fn sifted<F: Fn(usize) -> bool>(all: u32, test: F) -> u32
+    requires { (j : ℕ) → j < 24 → F.pre test j }
+    ensures { Sifts (F.post test) all result }
+{
+    let mut w: u32 = 0;
+    for j in jobs::each(all) {
+        if j < 24 {
+            w = jobs::with_if(w, j, test(j));
+        }
+    }
+    w
+}
+
+// Another job d, before which the consumer is surely not over, or not surely over: `sure` says which, as callers of `threats` do.
 fn threat_at(s: &State, b: usize, d: usize, sure: bool) -> bool
-    requires { b ≤ 24 }
+    requires { (b ≤ 24) × (d < 24) }
     ensures { Decides result (OtherThreat sure s.now b d) }
 {
-    if 24 <= d {
-        return false;
-    }
     if d == b {
         return false;
     }
     if sure {
-        return late_for(s, b, d);
+        late_for(s, b, d)
+    } else {
+        !done_for(s, b, d)
     }
-    !done_for(s, b, d)
 }
 
 // The jobs inside that delete the fact whose deleters are `kills`, and before which the consumer is surely not over, or not surely over.
@@ -90,34 +87,15 @@ pub fn threats(s: &State, b: usize, kills: u32, sure: bool) -> u32
     requires { b ≤ 24 }
     ensures { (P : Search) (p : ℕ) → Cols (Kills P.problem p) kills 24 → Cols (Threat sure P s.now p b) result 24 }
 {
-    let mut v = kills & cells::insides(s);
-    let mut w: u32 = 0;
-    while v != 0 {
-        let d = jobs::lowest(v);
-        w = jobs::with_if(w, d, threat_at(s, b, d, sure));
-        v = jobs::rest(v);
-    }
-    w
+    sifted(kills & cells::insides(s), |d| threat_at(s, b, d, sure))
 }
 
 // Job a is not out, may be over before the consumer b, and no danger surely follows it.
 fn fair_at(s: &State, b: usize, a: usize, dang: u32) -> bool
-    requires { b ≤ 24 }
+    requires { (b ≤ 24) × (a < 24) }
     ensures { Decides result (FairSupport s.now b dang a) }
 {
-    if 24 <= a {
-        return false;
-    }
-    if a == b {
-        return false;
-    }
-    if cells::barred(s, a) {
-        return false;
-    }
-    if useless_for(s, a, b) {
-        return false;
-    }
-    (cells::row_never(s, a) & dang) == 0
+    a != b && !cells::barred(s, a) && !useless_for(s, a, b) && (cells::row_never(s, a) & dang) == 0
 }
 
 // The candidates among those that add the fact.
@@ -125,14 +103,7 @@ pub fn cands(s: &State, b: usize, adders: u32, dang: u32) -> u32
     requires { b ≤ 24 }
     ensures { (P : Search) (p : ℕ) → Sight P s.now p b adders dang → Cols (Candidate P s.now p b) result 24 }
 {
-    let mut v = adders;
-    let mut w: u32 = 0;
-    while v != 0 {
-        let a = jobs::lowest(v);
-        w = jobs::with_if(w, a, fair_at(s, b, a, dang));
-        v = jobs::rest(v);
-    }
-    w
+    sifted(adders, |a| fair_at(s, b, a, dang))
 }
 
 // Start is a candidate: the fact is open and there is no danger.
@@ -140,8 +111,5 @@ pub fn may_start(t: &Tables, p: usize, dang: u32) -> bool
     requires { p < 64 }
     ensures { (P : Search) (s : List ℕ) (b : ℕ) → Lent t.now P → Cols (Danger P s p b) dang 24 → Decides result (StartMay P (view s) p (who_at b)) }
 {
-    if dang != 0 {
-        return false;
-    }
-    facts::has(lent::opening(t), p)
+    dang == 0 && facts::has(lent::opening(t), p)
 }

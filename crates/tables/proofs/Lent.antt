@@ -2,12 +2,12 @@
 -- Assumes nothing.
 use mathlib.Core.Path.{◌≡◌, refl, sym, ap, ap₂, ◌∙◌}
 use mathlib.Core.Logic.{◌⊎◌, inl, inr}
-use mathlib.Core.List.{List}
+use mathlib.Core.List.{List, ◌++◌}
 use Prim.Native.Nat.{ℕ, zero, suc, ◌+◌, ◌≤◌, ◌<◌}
 use native.Mathlib.Omega.{arith}
 use native.Mathlib.Numerals.{add-one}
-use lib.ListN.{length, get_or, set, length-set}
-use lib.Seq.{get_or-set_same, get_or-set_other}
+use lib.ListN.{length, get_or, set, take, drop, length-set}
+use lib.Seq.{get_or-set_same, get_or-set_other, length-take-le, take-suc, drop-cons, append_snoc, set_at}
 use Rattle.facts.proofs.Bools.{below_suc}
 use Rattle.tables.specs.declared.Action.{Action}
 use Rattle.tables.specs.Tables.{filled, tabled, no_jobs}
@@ -60,3 +60,15 @@ none_tabled f lent = refl
 pub one_tabled : (f : ℕ → Action) (lent i : ℕ) → with_job (tabled f i lent) i (f i) ≡ tabled f (suc i) lent
 unfolding filled
 one_tabled f lent i = refl
+
+-- n places over which the first n of a list are copied are filled with them
+pub filled_copy : {A : Type 0} (ts xs : List A) (d : A) (n : ℕ) → n ≤ length ts → n ≤ length xs → take n ts ++ drop n xs ≡ filled (λ i. get_or ts i d) n xs
+unfolding filled
+filled_copy ts xs d zero l m = refl
+filled_copy {A} ts xs d (suc k) l m =
+    let v = get_or ts k d in
+    ap (λ (t : List A). t ++ drop (suc k) xs) (take-suc ts k d l)
+    ∙ append_snoc (take k ts) v (drop (suc k) xs)
+    ∙ sym (set_at (take k ts) (get_or xs k d) (drop (suc k) xs) v k (length-take-le k ts (omega arith)))
+    ∙ ap (λ (t : List A). set (take k ts ++ t) k v) (sym (drop-cons xs k d m))
+    ∙ ap (λ (t : List A). set t k v) (filled_copy ts xs d k (omega arith) (omega arith))

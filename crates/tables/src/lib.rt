@@ -2,12 +2,12 @@
 
 #![tactic(auto)]
 
-ghost use Rattle.std.specs.Prelude.{◌≡◌, not, ◌||◌, ◌≤◌, ◌<◌, min, ltb};
-ghost use Rattle.facts.specs.Least.{least};
+ghost use Rattle.std.specs.Prelude.{◌≡◌, Bool, not, ◌||◌, ℕ, ◌≤◌, ◌<◌, min, ltb};
+ghost use Rattle.facts.specs.Tests.{Agrees, some_least};
 ghost use Rattle.refusals.specs.Refusals.{accepted, refused, refused_for};
 ghost use Rattle.rules.specs.Table.{between, strays, job_checks, bound_check};
 ghost use Rattle.tables.specs.Tables.{unmarked, problem, answer_of, no_jobs, job_at, call_checks};
-ghost use Rattle.tables.specs.Steps.{with_job, job_fails, stray_record, Judges, Cleared};
+ghost use Rattle.tables.specs.Steps.{with_job, stray_record, Judges, Cleared};
 
 // A job as the caller keeps it.
 #[repr(C)]
@@ -31,7 +31,7 @@ pub struct Loaded {
 pub fn held(jobs: usize) -> usize
     ensures { result ≡ min jobs 24 }
 {
-    if jobs < 24 { jobs } else { 24 }
+    jobs.min(24)
 }
 
 // A table by value without jobs.
@@ -101,6 +101,7 @@ pub fn gap(q: Ask) -> u16
 }
 
 // What every call says: number, second number and place, all 0 on success, and the number returned.
+// C's struct; a call on a table by value answers with it too, since its promise and the theorem that two results are one speak of it.
 #[repr(C)]
 #[derive(Clone, Copy)]
 pub struct Answer {
@@ -147,7 +148,7 @@ fn outside(n: u16, most: u16) -> bool
 fn atoms_wrong(q: Ask) -> bool
     ensures { result ≡ not (between 1 64 (unmarked q.atoms).atoms) }
 {
-    outside(atoms(q) as u16, 64)
+    outside(u16::from(atoms(q)), 64)
 }
 
 // The record has a fact at or above the atom count.
@@ -164,40 +165,17 @@ fn edges_stray(q: Ask) -> bool
     requires { (unmarked q.atoms).atoms ≤ 64 }
     ensures { result ≡ (strays (unmarked q.atoms).atoms q.opening || strays (unmarked q.atoms).atoms q.goals) }
 {
-    let atoms = atoms(q) as usize;
+    let atoms = usize::from(atoms(q));
     word_strays(q.opening, atoms) || word_strays(q.goals, atoms)
 }
 
-// Job i fails check 6, 20, 7 or 8.
-fn job_fails(l: Loaded, q: Ask, i: usize, check: u8) -> bool
-    requires { (i < 24) × ((unmarked q.atoms).atoms ≤ 64) }
-    ensures { result ≡ job_fails check (problem l q) i }
+// The lowest of the first n jobs that passes the test.
+fn first_job<F: Fn(Action) -> bool>(l: Loaded, n: usize, test: F) -> Option<usize>
+    requires few { n ≤ 24 }
+    requires callable { (a : Action) → F.pre test a }
+    ensures { (f : ℕ → Bool) → ((i : ℕ) → i < n → Agrees f i (F.post test (job_at l i))) → result ≡ some_least f n }
 {
-    let a = l.jobs[i];
-    if check == 6 {
-        return outside(a.duration, 960);
-    }
-    if check == 20 {
-        return 2880 < a.release;
-    }
-    if check == 7 {
-        return job_strays(a, atoms(q) as usize);
-    }
-    facts::meets(a.additions, a.deletions)
-}
-
-// The lowest job that fails it, or the job count.
-fn first_job(l: Loaded, q: Ask, check: u8) -> usize
-    requires { (q.jobs ≤ 24) × ((unmarked q.atoms).atoms ≤ 64) }
-    ensures { result ≡ least (job_fails check (problem l q)) q.jobs }
-{
-    let n = q.jobs;
-    for i in 0..n {
-        if job_fails(l, q, i, check) {
-            return i;
-        }
-    }
-    n
+    facts::first(n, |i| test(l.jobs[i]))
 }
 
 // A refusal with a second number, at a place.
@@ -227,23 +205,20 @@ fn jobs_fault(l: Loaded, q: Ask, bound: u16) -> Answer
     ensures { result ≡ answer_of (job_checks (problem l q) (bound_check bound accepted)) 0 0 }
 {
     let n = q.jobs;
-    let long = first_job(l, q, 6);
-    if long < n {
+    let atoms = usize::from(atoms(q));
+    if let Some(long) = first_job(l, n, |a| outside(a.duration, 960)) {
         return refuse(6, long as u16, 0);
     }
-    let held = first_job(l, q, 20);
-    if held < n {
+    if let Some(held) = first_job(l, n, |a| 2880 < a.release) {
         return refuse(20, held as u16, 0);
     }
-    let stray = first_job(l, q, 7);
-    if stray < n {
+    if let Some(stray) = first_job(l, n, |a| job_strays(a, atoms)) {
         return refuse(7, stray as u16, 0);
     }
     if edges_stray(q) {
         return refuse(7, 24, 0);
     }
-    let both = first_job(l, q, 8);
-    if both < n {
+    if let Some(both) = first_job(l, n, |a| facts::meets(a.additions, a.deletions)) {
         return refuse(8, both as u16, 0);
     }
     if 2880 < bound {

@@ -130,7 +130,7 @@ regroup : (s : Bool) (c q u : ℕ) → pos c *ℤ signed s (q * u) ≡ signed s 
 regroup true c q u = times_neg c (q * u) ∙ ap (λ (k : ℕ). neg_ℤ (pos k)) (sym (mul_assoc c q u)) ∙ sym (neg_times (c * q) u)
 regroup false c q u = ap pos (sym (mul_assoc c q u))
 
-pub mag_signed : (s : Bool) (n : ℕ) {k : ℕ} → n < k → mag (signed s n) < k
+mag_signed : (s : Bool) (n : ℕ) {k : ℕ} → n < k → mag (signed s n) < k
 mag_signed true zero h = h
 mag_signed true (suc n) h = le_of_lt h
 mag_signed false n h = h

@@ -98,7 +98,7 @@ place_le t f h = elim (dec_le (f - 1) 1074) [
 
 -- ---- what `floor_times` works out
 
-pub digits_few : (c b : ℕ) → c ≤ 100 → c * digits_of b < 2 ^ 63
+digits_few : (c b : ℕ) → c ≤ 100 → c * digits_of b < 2 ^ 63
 digits_few c b h = few h small
   where
     small : digits_of b < 2 ^ 53

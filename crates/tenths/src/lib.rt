@@ -5,39 +5,42 @@
 ghost use Rattle.std.specs.Prelude.{◌≡◌, ◌^◌, ◌<◌, ◌≤◌, T};
 ghost use Rattle.std.specs.Int.Signed.{shr_z};
 ghost use Rattle.tenths.specs.Tenths.{signed, in_range, tenths, measured};
-ghost use Rattle.tenths.specs.Bits.{digits_of, drop_of, floor_times};
+ghost use Rattle.tenths.specs.Bits.{field, digits_of, drop_of, floor_times};
 
 // What a float measures: its tenths are 0 where it is not finite and from -100 to 100.
+// A flag with the tenths, no Option: the theorem `Nearest.measure_only` speaks of this struct.
 #[derive(Clone, Copy)]
 pub struct Measured {
     pub in_range: bool,
     pub tenths: i16,
 }
 
+// What the sign counts in a pattern.
+const SIGN: u64 = 1 << 63;
+
+// What the leading digit counts, which is not written.
+const LEAD: u64 = 1 << 52;
+
+// The exponent's field of a pattern.
+fn field(bits: u64) -> u64
+    ensures { result ≡ field bits }
+{
+    bits % SIGN / LEAD
+}
+
 // The digits of a pattern, with the leading one that is not written.
 fn digits(bits: u64) -> u64
     ensures { result ≡ digits_of bits }
 {
-    let low = bits % 0x10_0000_0000_0000;
-    if bits % 0x8000_0000_0000_0000 / 0x10_0000_0000_0000 == 0 {
-        low
-    } else {
-        low + 0x10_0000_0000_0000
-    }
+    bits % LEAD + field(bits).min(1) * LEAD
 }
 
 // How far the digits are shifted down to ones: 63 places take all of them, as more would.
 fn drop(bits: u64) -> u64
     ensures { result ≡ drop_of bits }
 {
-    let field = bits % 0x8000_0000_0000_0000 / 0x10_0000_0000_0000;
-    if field <= 1012 {
-        63
-    } else if field <= 1075 {
-        1075 - field
-    } else {
-        0
-    }
+    let place = field(bits).saturating_sub(1);
+    1074u64.saturating_sub(place).min(63)
 }
 
 // A size with its sign.
@@ -46,15 +49,7 @@ fn give_sign(negative: bool, size: u64) -> i64
     ensures { result ≡ signed negative size }
 {
     let n = size as i64;
-    if negative { 0 - n } else { n }
-}
-
-// A shift of a signed number rounds down.
-fn shifted(n: i64, by: u64) -> i64
-    requires { by < 64 }
-    ensures { result ≡ shr_z n (2 ^ by) }
-{
-    n >> by
+    if negative { -n } else { n }
 }
 
 // c times a float in range, rounded down.
@@ -63,15 +58,15 @@ fn floor_times(c: u64, x: f64) -> i64
     ensures { result ≡ floor_times c x }
 {
     let bits = f64::to_bits(x);
-    let n = give_sign(0x8000_0000_0000_0000 <= bits, c * digits(bits));
-    shifted(n, drop(bits))
+    let n = give_sign(SIGN <= bits, c * digits(bits));
+    n >> drop(bits)
 }
 
 // Every comparison with a NaN is false.
 fn in_range(x: f64) -> bool
     ensures { result ≡ in_range x }
 {
-    if x >= -100.0 { x <= 100.0 } else { false }
+    x >= -100.0 && x <= 100.0
 }
 
 // The rule of the tenths: half of twenty times the value and one, each rounded down.
@@ -79,7 +74,7 @@ fn tenths_of(x: f64) -> i16
     requires { T (in_range x) }
     ensures { result ≡ tenths x }
 {
-    shifted(floor_times(20, x) + 1, 1) as i16
+    ((floor_times(20, x) + 1) >> 1) as i16
 }
 
 // Whether a float is in range, and its tenths.

@@ -1,6 +1,6 @@
 -- Least starts that keep ordered pairs of jobs, none before its release, and what the steps towards them promise.
 -- Assumes nothing.
-use Rattle.std.specs.Prelude.{◌≡◌, true, false, cond, List, ℕ, ◌+◌, ◌/◌, ◌≤◌, ◌<◌, max, T, length, set}
+use Rattle.std.specs.Prelude.{◌≡◌, cond, Option, MatchOption, List, ℕ, ◌+◌, ◌/◌, ◌≤◌, ◌<◌, max, T, length, set}
 use Rattle.facts.specs.Facts.{has}
 use Rattle.rules.specs.Table.{Problem}
 use Rattle.rules.specs.Premises.{Below}
@@ -10,7 +10,6 @@ use Rattle.tables.specs.declared.Loaded.{Loaded}
 use Rattle.tables.specs.declared.Ask.{Ask}
 use Rattle.tables.specs.Tables.{job_at, problem}
 use Rattle.entries.specs.Entries.{entry}
-use Rattle.times.specs.declared.Outcome.{Outcome}
 use Rattle.times.specs.Times.{pair_first, pair_second, wanted}
 
 -- the set names jobs of the table, and every pair two jobs of the set
@@ -21,9 +20,8 @@ pub record Ready (q : Ask) (bytes : List ℕ) : Type 0 where
   pub paired : (k : ℕ) → k < q.pairs → T (has q.set (pair_first bytes k)) × T (has q.set (pair_second bytes k))
 
 -- the settled starts, or that there are none
-pub record Solved (P : Problem) (a : Asked) (r : Outcome) : Type 0 where
-  pub some : r.ok ≡ true → Settled P a (entry r.starts)
-  pub none : r.ok ≡ false → (y : Plan) → Obeys P a y → ⊥
+abbrev pub Solved : Problem → Asked → Option (List ℕ) → Type 0
+Solved P a r = MatchOption r ((y : Plan) → Obeys P a y → ⊥) (λ s. Settled P a (entry s))
 
 -- ── the steps ──
 
@@ -40,10 +38,8 @@ abbrev pub Under : Ask → (t y : Plan) → Type 0
 Under q t y = (j : ℕ) → j < q.jobs → T (has q.set j) → t j ≤ y j
 
 -- job b, which is `long`, starts at x or later, unless it would then end after the bound
-pub record Pushes (t : List ℕ) (b x long bound : ℕ) (r : Outcome) : Type 0 where
-  pub room : b < length t
-  pub some : r.ok ≡ true → (r.starts ≡ set t b (max (entry t b) x)) × (x + long ≤ bound)
-  pub none : r.ok ≡ false → bound < x + long
+abbrev pub Pushes : (t : List ℕ) → (b x long bound : ℕ) → Option (List ℕ) → Type 0
+Pushes t b x long bound r = (b < length t) × MatchOption r (bound < x + long) (λ s. (s ≡ set t b (max (entry t b) x)) × (x + long ≤ bound))
 
 -- s is t with starts of the set pushed on: those end by the bound, and none is later than in any starts that keep what is asked
 pub record Pushed (l : Loaded) (q : Ask) (bytes : List ℕ) (t s : Plan) : Type 0 where
@@ -61,13 +57,9 @@ abbrev pub NoneUnder : Loaded → Ask → (bytes : List ℕ) → Plan → Type 0
 NoneUnder l q bytes t = (y : Plan) → Obeys (problem l q) (wanted l q bytes) y → Under q t y → ⊥
 
 -- a round from t
-pub record Round (l : Loaded) (q : Ask) (bytes : List ℕ) (t : Plan) (r : Outcome) : Type 0 where
-  pub pushed : r.ok ≡ true → Pushed l q bytes t (entry r.starts)
-  pub behind : r.ok ≡ true → Behind l q bytes t (entry r.starts) q.pairs
-  pub none : r.ok ≡ false → NoneUnder l q bytes t
+abbrev pub Round : Loaded → Ask → (bytes : List ℕ) → (t : Plan) → Option (List ℕ) → Type 0
+Round l q bytes t r = MatchOption r (NoneUnder l q bytes t) (λ s. Pushed l q bytes t (entry s) × Behind l q bytes t (entry s) q.pairs)
 
 -- all rounds from t
-pub record Rounds (l : Loaded) (q : Ask) (bytes : List ℕ) (t : Plan) (r : Outcome) : Type 0 where
-  pub pushed : r.ok ≡ true → Pushed l q bytes t (entry r.starts)
-  pub behind : r.ok ≡ true → Behind l q bytes (entry r.starts) (entry r.starts) q.pairs
-  pub none : r.ok ≡ false → NoneUnder l q bytes t
+abbrev pub Rounds : Loaded → Ask → (bytes : List ℕ) → (t : Plan) → Option (List ℕ) → Type 0
+Rounds l q bytes t r = MatchOption r (NoneUnder l q bytes t) (λ s. Pushed l q bytes t (entry s) × Behind l q bytes (entry s) (entry s) q.pairs)

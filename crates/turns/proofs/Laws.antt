@@ -1,17 +1,15 @@
 -- Laws of the check of a turn.
 -- Assumes nothing.
 use mathlib.Core.Path.{◌≡◌, sym, ap, subst, ◌∙◌}
-use mathlib.Core.Logic.{inl, inr, ⊎_elim}
-use mathlib.Core.Bool.{◌||◌}
+use mathlib.Core.Logic.{⊎_elim}
 use mathlib.Core.List.{List}
-use Prim.Native.Nat.{ℕ, ◌+◌, ◌≤◌, ◌<◌, ◌^◌}
+use Prim.Native.Nat.{ℕ, ◌<◌, ◌^◌}
 use native.Mathlib.Omega.{arith}
-use lib.Dec.{T, eqb, eqb→eq, eqb_refl}
+use lib.Dec.{T}
 use Rattle.facts.specs.Facts.{has}
-use Rattle.facts.specs.Words.{Word}
 use Rattle.facts.specs.Least.{least}
 use Rattle.facts.specs.Walks.{Walk}
-use Rattle.facts.proofs.Bools.{same, or_l, or_r, or_cases, below_suc}
+use Rattle.facts.proofs.Bools.{same}
 use Rattle.facts.proofs.Sets.{has_zero}
 use Rattle.facts.proofs.Walks.{Done, done_none, done_next, done_map, done_all, Over, over_all, over_next, over_here, over_lt}
 use Rattle.tables.specs.Tables.{problem}
@@ -24,25 +22,11 @@ use Rattle.turns.specs.Turns.{Turn}
 use Rattle.turns.specs.Checked.{AllInverse, Moved, Stems, Image, TurnsBelow, MovesTo, Leader}
 use Rattle.turns.proofs.Leading.{turn_leads}
 
--- one more number of which A is so
-pub next_so : (A : ℕ → Type 0) (k : ℕ) → ((i : ℕ) → i < k → A i) → A k → (i : ℕ) → i < k + 1 → A i
-next_so A k f h i l = ⊎_elim (λ m. f i m) (λ m. rw m h) (below_suc i k (omega arith))
-
 -- ── images of words ──
 
 -- r has the fact that takes the place of p
 abbrev Reached : (fact : List ℕ) (r p : ℕ) → Type 0
 Reached fact r p = entry fact p < 64 → T (has r (entry fact p))
-
-pub moved_none : {fact : List ℕ} {p i w : ℕ} → i ≡ entry fact p → 64 ≤ i → Moved fact p w w
-moved_none e l = record { keeps = λ j h. h; of = λ j h. inl h; at = λ h. absurd (omega arith) }
-
-pub moved_with : {fact : List ℕ} {p i w r : ℕ} → i ≡ entry fact p → Word (λ j. has w j || eqb j i) r → Moved fact p w r
-moved_with {fact} {p} {i} {w} {r} e m = record {
-  keeps = λ j h. subst T (sym (m j)) (or_l (has w j) (eqb j i) h);
-  of = λ j h. ⊎_elim inl (λ x. inr (eqb→eq j i x ∙ e)) (or_cases (has w j) (eqb j i) (subst T (m j) h));
-  at = λ h. subst (λ (j : ℕ). T (has r j)) e (subst T (sym (m i)) (or_r (has w i) (eqb i i) (eqb_refl i)));
-}
 
 -- what is left of w is v, and r is the image of the rest
 pub record Walked (fact : List ℕ) (w r v : ℕ) : Type 0 where
@@ -54,13 +38,13 @@ pub walked_none : {fact : List ℕ} {w : ℕ} → w < 2 ^ 64 → Walked fact w 0
 walked_none l = record { over = over_all l; of = λ i h. absurd (has_zero i h); done = done_none }
 
 -- the lowest fact of a word that is not empty is a fact
-pub lowest_small : {fact : List ℕ} {w r v p : ℕ} → Walked fact w r v → (v ≡ 0 → ⊥) → p ≡ least (has v) 64 → p < 64
-lowest_small k n e = over_lt k.over n e
+pub lowest_small : {v p : ℕ} → v < 2 ^ 64 → 0 < v → p ≡ least (has v) 64 → p < 64
+lowest_small l n e = over_lt (over_all l) (λ z. omega arith) e
 
-pub walked_next : {fact : List ℕ} {w r v p s u : ℕ} → Walked fact w r v → (v ≡ 0 → ⊥) → p ≡ least (has v) 64 → Moved fact p r s → Walk 64 v u → Walked fact w s u
+pub walked_next : {fact : List ℕ} {w r v p s u : ℕ} → Walked fact w r v → 0 < v → p ≡ least (has v) 64 → Moved fact p r s → Walk 64 v u → Walked fact w s u
 walked_next {fact} {w} {r} {v} {p} {s} k n e m d = record {
   over = over_next k.over d;
-  of = λ i h. ⊎_elim (λ x. k.of i x) (λ x. record { p = p; below = lowest_small k n e; in? = over_here k.over n e; is = x }) (m.of i h);
+  of = λ i h. ⊎_elim (λ x. k.of i x) (λ x. record { p = p; below = lowest_small k.over.short n e; in? = over_here k.over (λ z. omega arith) e; is = x }) (m.of i h);
   done = done_next (done_map (λ i x l. m.keeps _ (x l)) k.done) d (subst (Reached fact s) e m.at);
 }
 

@@ -1,6 +1,6 @@
 -- What the contracts of the check of a turn cite.
 -- Assumes nothing.
-use Rattle.std.specs.Prelude.{◌≡◌, ◌⊎◌, List, ℕ, ◌≤◌, ◌<◌, T}
+use Rattle.std.specs.Prelude.{◌≡◌, ◌⊎◌, List, ℕ, ◌<◌, T, ⊤, Option, MatchOption}
 use Rattle.facts.specs.Facts.{has}
 use Rattle.rules.specs.Premises.{InOrder}
 use Rattle.tables.specs.Tables.{job_at, problem}
@@ -75,7 +75,6 @@ pub record MovesTo (to : List ℕ) (i j : ℕ) : Type 0 where
 abbrev pub Leader : Loaded → Ask → (m n : ℕ) → Type 0
 Leader l q m n = InOrder (problem l q) → (bound : ℕ) → Leads (record { problem = problem l q; bound = bound }) m n
 
--- r is a job that m leads, or 24 for none
-pub record Follower (l : Loaded) (q : Ask) (m r : ℕ) : Type 0 where
-  pub within : r ≤ 24
-  pub led : r < 24 → Leader l q m r
+-- what was found is a job that m leads
+abbrev pub Follower : Loaded → Ask → (m : ℕ) → Option ℕ → Type 0
+Follower l q m found = MatchOption found ⊤ (λ r. (r < 24) × Leader l q m r)

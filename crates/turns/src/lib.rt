@@ -8,21 +8,14 @@ ghost use Rattle.entries.specs.Entries.{entry};
 ghost use Rattle.turns.specs.Turns.{Turn};
 ghost use Rattle.turns.specs.Checked.{Inverse, AllInverse, Moved, Image, SameTimes, SameJob, TurnsJob, TurnsBelow, MovesTo, Leader, Follower};
 
+use std::array;
 use tables::{Action, Ask, Loaded};
 
-// The jobs and the facts that change places; not ok where one would have two.
+// The jobs and the facts that change places.
 #[derive(Clone, Copy)]
 pub struct Guess {
     pub to: [u8; 24],
     pub fact: [u8; 64],
-    pub ok: bool,
-}
-
-// A byte as an index.
-fn wide(x: u8) -> usize
-    ensures { result ≡ x }
-{
-    x as usize
 }
 
 // The word with the fact that takes the place of p.
@@ -30,11 +23,8 @@ fn with_moved(w: u64, fact: [u8; 64], p: usize) -> u64
     requires { p < 64 }
     ensures { Moved fact p w result }
 {
-    let i = wide(fact[p]);
-    if 64 <= i {
-        return w;
-    }
-    facts::with(w, i)
+    let i = usize::from(fact[p]);
+    if i < 64 { facts::with(w, i) } else { w }
 }
 
 // The facts that take the places of those of the word.
@@ -42,10 +32,8 @@ fn image(w: u64, fact: [u8; 64]) -> u64
     ensures { Image fact w result }
 {
     let mut r: u64 = 0;
-    let mut v = w;
-    while v != 0 {
-        r = with_moved(r, fact, facts::lowest(v) as usize);
-        v = facts::rest(v);
+    for p in facts::each(w) {
+        r = with_moved(r, fact, p);
     }
     r
 }
@@ -55,49 +43,32 @@ fn back_at(fact: [u8; 64], p: usize) -> bool
     requires { p < 64 }
     ensures { result ≡ true → Inverse fact p }
 {
-    let i = wide(fact[p]);
-    if 64 <= i {
-        return false;
-    }
-    wide(fact[i]) == p
+    let i = usize::from(fact[p]);
+    i < 64 && usize::from(fact[i]) == p
 }
 
 // Every fact is.
 fn facts_back(fact: [u8; 64]) -> bool
     ensures { result ≡ true → AllInverse fact 64 }
 {
-    for p in 0..64 {
-        if !back_at(fact, p) {
-            return false;
-        }
-    }
-    true
+    (0..64).all(|p| back_at(fact, p))
 }
 
 // Job b takes as long as job a and has the same release.
 fn same_times(a: Action, b: Action) -> bool
     ensures { result ≡ true → SameTimes a b }
 {
-    if b.duration != a.duration {
-        return false;
-    }
-    b.release == a.release
+    b.duration == a.duration && b.release == a.release
 }
 
 // Job b is job a with other facts.
 fn same_job(a: Action, b: Action, fact: [u8; 64]) -> bool
     ensures { result ≡ true → SameJob a b fact }
 {
-    if !same_times(a, b) {
-        return false;
-    }
-    if image(a.conditions, fact) != b.conditions {
-        return false;
-    }
-    if image(a.additions, fact) != b.additions {
-        return false;
-    }
-    image(a.deletions, fact) == b.deletions
+    same_times(a, b)
+        && image(a.conditions, fact) == b.conditions
+        && image(a.additions, fact) == b.additions
+        && image(a.deletions, fact) == b.deletions
 }
 
 // Job j and the job that takes its place.
@@ -105,15 +76,8 @@ fn turns_job(l: Loaded, n: usize, g: Guess, j: usize) -> bool
     requires { (n ≤ 24) × (j < 24) }
     ensures { result ≡ true → TurnsJob l n g j }
 {
-    let k = wide(g.to[j]);
-    if n <= k {
-        return false;
-    }
-    if wide(g.to[k]) != j {
-        return false;
-    }
-    let fact = g.fact;
-    same_job(l.jobs[j], l.jobs[k], fact)
+    let k = usize::from(g.to[j]);
+    k < n && usize::from(g.to[k]) == j && same_job(l.jobs[j], l.jobs[k], g.fact)
 }
 
 // The jobs below n.
@@ -121,12 +85,7 @@ fn turns_jobs(l: Loaded, n: usize, g: Guess) -> bool
     requires { n ≤ 24 }
     ensures { result ≡ true → TurnsBelow l n g n }
 {
-    for j in 0..n {
-        if !turns_job(l, n, g, j) {
-            return false;
-        }
-    }
-    true
+    (0..n).all(|j| turns_job(l, n, g, j))
 }
 
 // The whole turn.
@@ -134,136 +93,72 @@ fn is_turn(l: Loaded, q: Ask, g: Guess) -> bool
     requires { q.jobs ≤ 24 }
     ensures { result ≡ true → Turn (problem l q) (entry g.to) (entry g.to) (entry g.fact) }
 {
-    let fact = g.fact;
-    if !facts_back(fact) {
-        return false;
-    }
-    if image(q.opening, fact) != q.opening {
-        return false;
-    }
-    if image(q.goals, fact) != q.goals {
-        return false;
-    }
-    turns_jobs(l, q.jobs, g)
-}
-
-// Every job in its place.
-fn jobs_still() -> [u8; 24] {
-    let mut t = [0u8; 24];
-    for j in 0..24 {
-        t[j] = j as u8;
-    }
-    t
-}
-
-// Every fact in its place.
-fn facts_still() -> [u8; 64] {
-    let mut t = [0u8; 64];
-    for p in 0..64 {
-        t[p] = p as u8;
-    }
-    t
+    facts_back(g.fact)
+        && image(q.opening, g.fact) == q.opening
+        && image(q.goals, g.fact) == q.goals
+        && turns_jobs(l, q.jobs, g)
 }
 
 // Nothing moves.
 fn still() -> Guess {
-    let to = jobs_still();
-    let fact = facts_still();
-    Guess { to, fact, ok: true }
+    Guess {
+        to: array::from_fn(|j| j as u8),
+        fact: array::from_fn(|p| p as u8),
+    }
 }
 
-// No turn.
-fn clash(g: Guess) -> Guess {
-    let mut r = g;
-    r.ok = false;
-    r
-}
-
-// The facts x and y change places.
-fn swap_facts(g: Guess, x: usize, y: usize) -> Guess
+// The facts x and y change places; none where one would have two.
+fn swap_facts(g: Guess, x: usize, y: usize) -> Option<Guess>
     requires { (x < 64) × (y < 64) }
 {
-    let a = wide(g.fact[x]);
+    let a = usize::from(g.fact[x]);
     if a == y {
-        return g;
+        return Some(g);
     }
-    if a != x {
-        return clash(g);
-    }
-    if wide(g.fact[y]) != y {
-        return clash(g);
+    if a != x || usize::from(g.fact[y]) != y {
+        return None;
     }
     let mut r = g;
     r.fact[x] = y as u8;
     r.fact[y] = x as u8;
-    r
-}
-
-// The lowest facts of both words change places.
-fn swap_lowest(g: Guess, a: u64, b: u64) -> Guess {
-    let x = facts::lowest(a) as usize;
-    let y = facts::lowest(b) as usize;
-    if 64 <= x {
-        return g;
-    }
-    if 64 <= y {
-        return clash(g);
-    }
-    swap_facts(g, x, y)
-}
-
-// The word without its lowest fact, if it has one.
-fn next(w: u64) -> u64 {
-    if w == 0 {
-        return 0;
-    }
-    facts::rest(w)
+    Some(r)
 }
 
 // The facts in which the words differ change places, in their order.
-fn swap_words(g: Guess, v: u64, w: u64) -> Guess {
-    let mut a = v & !w;
-    let mut b = w & !v;
+fn swap_words(g: Guess, v: u64, w: u64) -> Option<Guess> {
+    let mut theirs = facts::each(facts::less(w, v));
     let mut r = g;
-    while a != 0 {
-        r = swap_lowest(r, a, b);
-        a = facts::rest(a);
-        b = next(b);
+    for x in facts::each(facts::less(v, w)) {
+        r = swap_facts(r, x, theirs.next()?)?;
     }
-    r
+    Some(r)
 }
 
-// The jobs i and j change places.
-fn swap_jobs(g: Guess, i: usize, j: usize) -> Guess
+// The jobs i and j change places; none where one would have two.
+fn swap_jobs(g: Guess, i: usize, j: usize) -> Option<Guess>
     requires { (i < 24) × (j < 24) }
 {
-    if wide(g.to[i]) != i {
-        return clash(g);
-    }
-    if wide(g.to[j]) != j {
-        return clash(g);
+    if usize::from(g.to[i]) != i || usize::from(g.to[j]) != j {
+        return None;
     }
     let mut r = g;
     r.to[i] = j as u8;
     r.to[j] = i as u8;
-    r
+    Some(r)
 }
 
 // And the facts in which they differ.
-fn pair_jobs(g: Guess, l: Loaded, i: usize, j: usize) -> Guess
+fn pair_jobs(g: Guess, l: Loaded, i: usize, j: usize) -> Option<Guess>
     requires { (i < 24) × (j < 24) }
 {
     let a = l.jobs[i];
     let b = l.jobs[j];
     if !same_times(a, b) {
-        return clash(g);
+        return None;
     }
-    let r = swap_jobs(g, i, j);
-    if !r.ok {
-        return r;
-    }
-    let s = swap_words(r, a.conditions, b.conditions);
-    let t = swap_words(s, a.additions, b.additions);
+    let r = swap_jobs(g, i, j)?;
+    let s = swap_words(r, a.conditions, b.conditions)?;
+    let t = swap_words(s, a.additions, b.additions)?;
     swap_words(t, a.deletions, b.deletions)
 }
 
@@ -271,84 +166,40 @@ fn pair_jobs(g: Guess, l: Loaded, i: usize, j: usize) -> Guess
 fn fits(g: Guess, l: Loaded, k: usize) -> bool
     requires { k < 24 }
 {
-    let m = wide(g.to[k]);
-    if 24 <= m {
-        return false;
-    }
-    let fact = g.fact;
-    same_job(l.jobs[k], l.jobs[m], fact)
-}
-
-// The first job below n that does not fit, or 24.
-fn misfit(g: Guess, l: Loaded, n: usize) -> usize
-    requires { n ≤ 24 }
-    ensures { result ≤ 24 }
-{
-    for k in 0..n {
-        if !fits(g, l, k) {
-            return k;
-        }
-    }
-    24
+    let m = usize::from(g.to[k]);
+    m < 24 && same_job(l.jobs[k], l.jobs[m], g.fact)
 }
 
 // Jobs k and m change places, if k then fits.
-fn try_pair(g: Guess, l: Loaded, k: usize, m: usize) -> Guess
+fn try_pair(g: Guess, l: Loaded, k: usize, m: usize) -> Option<Guess>
     requires { (k < 24) × (m < 24) }
 {
     if k == m {
-        return clash(g);
+        return None;
     }
-    let r = pair_jobs(g, l, k, m);
-    if !r.ok {
-        return r;
-    }
-    if !fits(r, l, k) {
-        return clash(r);
-    }
-    r
+    pair_jobs(g, l, k, m).filter(|r| fits(*r, l, k))
 }
 
-// Job k gets the first place from `low` on that fits.
-fn mend(g: Guess, l: Loaded, n: usize, k: usize, low: usize) -> Guess
-    requires { (n ≤ 24) × (k < 24) }
-{
-    for m in low..n {
-        let r = try_pair(g, l, k, m);
-        if r.ok {
-            return r;
-        }
-    }
-    clash(g)
-}
-
-// One job more fits, and none below `low` moves.
-fn grow(g: Guess, l: Loaded, n: usize, low: usize) -> Guess
+// The first job below n that does not fit gets the first place from `low` on that fits; none below `low` moves.
+fn grow(g: Guess, l: Loaded, n: usize, low: usize) -> Option<Guess>
     requires { n ≤ 24 }
 {
-    if !g.ok {
-        return g;
+    match (0..n).find(|&k| !fits(g, l, k)) {
+        None => Some(g),
+        Some(k) if k < low => None,
+        Some(k) => (low..n).find_map(|m| try_pair(g, l, k, m)),
     }
-    let k = misfit(g, l, n);
-    if k == 24 {
-        return g;
-    }
-    if k < low {
-        return clash(g);
-    }
-    mend(g, l, n, k, low)
 }
 
 // A turn that moves i to j, if there is one.
-fn find(l: Loaded, n: usize, i: usize, j: usize) -> Guess
+fn find(l: Loaded, n: usize, i: usize, j: usize) -> Option<Guess>
     requires { (n ≤ 24) × (i < 24) × (j < 24) }
 {
-    let mut g = try_pair(still(), l, i, j);
-    let most: usize = 8;
-    for turn in 0..most {
-        g = grow(g, l, n, i);
+    let mut g = try_pair(still(), l, i, j)?;
+    for _ in 0..8 {
+        g = grow(g, l, n, i)?;
     }
-    g
+    Some(g)
 }
 
 // The jobs below i stay, and j takes i's place.
@@ -356,12 +207,7 @@ fn moves_to(to: [u8; 24], i: usize, j: usize) -> bool
     requires { i < 24 }
     ensures { result ≡ true → MovesTo to i j }
 {
-    for x in 0..i {
-        if wide(to[x]) != x {
-            return false;
-        }
-    }
-    wide(to[i]) == j
+    (0..i).all(|x| usize::from(to[x]) == x) && usize::from(to[i]) == j
 }
 
 // A turn shows that m leads n.
@@ -369,31 +215,19 @@ fn leads(l: Loaded, q: Ask, m: usize, n: usize) -> bool
     requires { (q.jobs ≤ 24) × (m < q.jobs) × (n < 24) }
     ensures { result ≡ true → Leader l q m n }
 {
-    let a = l.jobs[m];
-    let b = l.jobs[n];
-    if !same_times(a, b) {
+    if !same_times(l.jobs[m], l.jobs[n]) {
         return false;
     }
-    let g = find(l, q.jobs, m, n);
-    if !g.ok {
-        return false;
+    match find(l, q.jobs, m, n) {
+        None => false,
+        Some(g) => moves_to(g.to, m, n) && is_turn(l, q, g),
     }
-    let to = g.to;
-    if !moves_to(to, m, n) {
-        return false;
-    }
-    is_turn(l, q, g)
 }
 
-// The first job behind m that it leads, or 24.
-pub fn led(l: Loaded, q: Ask, m: usize) -> usize
+// The first job behind m that it leads.
+pub fn led(l: Loaded, q: Ask, m: usize) -> Option<usize>
     requires { (q.jobs ≤ 24) × (m < q.jobs) }
     ensures { Follower l q m result }
 {
-    for n in m + 1..q.jobs {
-        if leads(l, q, m, n) {
-            return n;
-        }
-    }
-    24
+    (m + 1..q.jobs).find(|&n| leads(l, q, m, n))
 }

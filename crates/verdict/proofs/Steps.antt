@@ -3,22 +3,27 @@
 use mathlib.Core.Path.{◌≡◌, refl, sym, ap, ap₂, ◌∙◌, subst}
 use mathlib.Core.Logic.{◌⊎◌, inl, inr}
 use mathlib.Core.Bool.{Bool, true, false, not, ◌&&◌}
-use Prim.Native.Nat.{ℕ, zero, suc, ◌+◌, ◌-◌, ◌≤◌, ◌<◌}
+use Prim.Native.Nat.{ℕ, zero, suc, ◌+◌, ◌-◌, ◌≤◌, ◌<◌, ◌^◌}
 use borrow.Author.Tests.{ne_eqb}
+use Rattle.std.specs.Prelude.{Option, Some, None, IsSome, is_some, cond}
 use native.Mathlib.Numerals.{add-one}
 use native.Mathlib.Omega.{arith}
-use lib.Dec.{T, ltb, ltb→lt, eqb→eq}
+use lib.Dec.{T, ltb, eqb→eq}
 use lib.ListN.{get_or}
 use mathlib.Core.List.{List}
 use Rattle.facts.specs.Facts.{has}
 use Rattle.facts.specs.Words.{Word}
 use Rattle.facts.specs.Least.{least, any}
-use Rattle.facts.proofs.Bools.{and_l, and_r, or_at}
-use Rattle.facts.proofs.Least.{least_same}
+use Rattle.facts.specs.Tests.{some_least}
+use Rattle.facts.specs.Walks.{Comes}
+use Rattle.facts.proofs.Bools.{and_l, and_r, or_at, same}
+use Rattle.facts.proofs.Least.{first_same}
+use Rattle.facts.proofs.Sets.{has_zero, has_lt}
+use Rattle.facts.proofs.Walks.{first_in}
 use Rattle.rules.specs.Table.{Problem}
 use Rattle.rules.specs.Clashes.{interfere}
 use Rattle.rules.specs.Plans.{Plan, starts, In, in_plan, finish, ends, after_if, finishes, holds}
-use Rattle.rules.specs.Verdicts.{overlap, overlap_above, clashes, unready}
+use Rattle.rules.specs.Verdicts.{overlap, unready}
 use Rattle.rules.proofs.Time.{still}
 use Rattle.tables.specs.declared.Loaded.{Loaded}
 use Rattle.tables.specs.declared.Ask.{Ask}
@@ -85,20 +90,34 @@ overlap_of l q s i j {g} e =
     regroup (start_in (get_or s i 0)) (start_in (get_or s j 0)) (ltb (get_or s j 0) (get_or s i 0 + (job_at l i).duration + g)) (ltb (get_or s i 0) (get_or s j 0 + (job_at l j).duration + g)) (interfere (problem l q) i j)
     ∙ ap (λ (x : ℕ). start_in (get_or s i 0) && (start_in (get_or s j 0) && (ltb (get_or s j 0) (get_or s i 0 + (job_at l i).duration + x) && (ltb (get_or s i 0) (get_or s j 0 + (job_at l j).duration + x) && interfere (problem l q) i j)))) e
 
--- the lowest job above with which a job clashes is one of the table
-pub above_below : (P : Problem) (s : Plan) (i : ℕ) {r : ℕ} → T (clashes P s i) → r ≡ least (overlap_above P s i) P.count → r < P.count
-unfolding clashes any
-above_below P s i h e = subst (λ (k : ℕ). k < P.count) (sym e) (ltb→lt _ _ h)
+-- ── the first that passes ──
+
+-- there is a first where one passes
+pub some_first : (f : ℕ → Bool) (n : ℕ) → is_some (some_least f n) ≡ any f n
+unfolding some_least
+some_first f n = go (any f n)
+  where
+    go : (b : Bool) → is_some (cond b (Some (least f n)) None) ≡ b
+    go true = refl
+    go false = refl
+
+pub is_first : (f : ℕ → Bool) (n : ℕ) {r : Option ℕ} → T (any f n) → r ≡ some_least f n → IsSome r
+is_first f n {r = None} h e = absurd (subst T (sym (ap is_some e ∙ some_first f n)) h)
+is_first f n {r = Some i} h e = refl
+
+pub lacking_is : (have want w v : ℕ) {r : Option ℕ} → w < 2 ^ 64 → Word (λ p. has want p && not (has have p)) w → Comes w r v → r ≡ some_least (λ p. has want p && not (has have p)) 64
+lacking_is have want w v {r} l g e = first_in w r v l e ∙ first_same (has w) _ 64 (λ p _. g p)
 
 -- what is wanted and not in the word of facts at a time is what is wanted and does not hold then
-pub lacking_same : (f : ℕ → Bool) (want have : ℕ) → Word f have → least (λ p. has want p && not (has have p)) 64 ≡ least (λ p. has want p && not (f p)) 64
-lacking_same f want have h = least_same _ _ 64 (λ p l. ap (λ (b : Bool). has want p && not b) (h p))
+pub lacking_same : (f : ℕ → Bool) (want have : ℕ) → Word f have → some_least (λ p. has want p && not (has have p)) 64 ≡ some_least (λ p. has want p && not (f p)) 64
+lacking_same f want have h = first_same _ _ 64 (λ p l. ap (λ (b : Bool). has want p && not b) (h p))
 
 -- a job in the plan is not ready where a condition is not among the facts the gap before its start
-pub unready_of : (l : Loaded) (q : Ask) (s : List ℕ) (i r w : ℕ) {t : ℕ} → (get_or s i 0 ≡ 65535 → ⊥) → t ≡ get_or s i 0 - (problem l q).gap → FactsAt (problem l q) (starts s) t w
-    → r ≡ least (λ p. has (job_at l i).conditions p && not (has w p)) 64 → ltb r 64 ≡ unready (problem l q) (starts s) i
-unfolding unready in_plan any
-unready_of l q s i r w n m f e =
+pub unready_of : (l : Loaded) (q : Ask) (s : List ℕ) (i w : ℕ) (r : Option ℕ) {t : ℕ} → (get_or s i 0 ≡ 65535 → ⊥) → t ≡ get_or s i 0 - (problem l q).gap → FactsAt (problem l q) (starts s) t w
+    → r ≡ some_least (λ p. has (job_at l i).conditions p && not (has w p)) 64 → is_some r ≡ unready (problem l q) (starts s) i
+unfolding unready in_plan
+unready_of l q s i w r n m f e =
     simp (ne_eqb _ _ n)
-    (ap (λ (x : ℕ). ltb x 64)
-    (e ∙ lacking_same (λ p. holds (problem l q) (starts s) p (get_or s i 0 - (problem l q).gap)) (job_at l i).conditions w (subst (λ (u : ℕ). FactsAt (problem l q) (starts s) u w) m f)))
+    (ap is_some
+    (e ∙ lacking_same (λ p. holds (problem l q) (starts s) p (get_or s i 0 - (problem l q).gap)) (job_at l i).conditions w (subst (λ (u : ℕ). FactsAt (problem l q) (starts s) u w) m f))
+    ∙ some_first _ 64)

@@ -1,10 +1,9 @@
 -- What an accepted plan gives, and what the steps of the verdict promise.
 -- Assumes nothing.
-use Rattle.std.specs.Prelude.{Bool, not, cond, ◌||◌, List, ℕ, ◌+◌, ◌≤◌, ◌<◌, T, eqb, ltb, length}
+use Rattle.std.specs.Prelude.{Bool, not, ◌||◌, List, ℕ, ◌+◌, ◌≤◌, ◌<◌, T, eqb, ltb, length}
 use Rattle.facts.specs.Words.{Word}
 use Rattle.rules.specs.Table.{Problem}
 use Rattle.rules.specs.Plans.{Plan, starts, In, finish, holds, Valid}
-use Rattle.rules.specs.Verdicts.{late, early, clashes, unready}
 use Rattle.tables.specs.declared.Loaded.{Loaded}
 use Rattle.tables.specs.declared.Ask.{Ask}
 use Rattle.tables.specs.Tables.{problem}
@@ -40,8 +39,3 @@ pub record Next (P : Problem) (s : Plan) (from till r : ℕ) : Type 0 where
   pub least : r ≤ till
   pub later : from < r
   pub free : (i : ℕ) → In P s i → from < finish P s i → finish P s i < r → ⊥
-
--- what checks 11, 21, 12 and 13 look for in job i
-abbrev pub step_fails : (check : ℕ) → Problem → (bound : ℕ) → Plan → ℕ → Bool
-step_fails check P bound s i =
-    cond (eqb check 11) (late P bound s i) (cond (eqb check 21) (early P s i) (cond (eqb check 12) (clashes P s i) (unready P s i)))

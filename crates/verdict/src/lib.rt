@@ -2,17 +2,17 @@
 
 #![tactic(auto)]
 
-ghost use Rattle.std.specs.Prelude.{◌≡◌, not, ◌&&◌, ◌+◌, ◌-◌, ◌<◌, T, eqb, ltb, length};
+ghost use Rattle.std.specs.Prelude.{◌≡◌, Bool, ℕ, not, ◌&&◌, ◌+◌, ◌-◌, ◌<◌, T, eqb, ltb, length};
 ghost use Rattle.facts.specs.Facts.{has};
 ghost use Rattle.facts.specs.Words.{Word};
-ghost use Rattle.facts.specs.Least.{least};
+ghost use Rattle.facts.specs.Tests.{Agrees, some_least};
 ghost use Rattle.refusals.specs.Refusals.{accepted};
 ghost use Rattle.rules.specs.Plans.{starts, after_if, finishes};
-ghost use Rattle.rules.specs.Verdicts.{overlap, overlap_above, clashes, clash_fact, unready, missing, plan_checks};
+ghost use Rattle.rules.specs.Verdicts.{overlap, overlap_above, late, early, clashes, clash_fact, unready, missing, plan_checks};
 ghost use Rattle.tables.specs.Tables.{problem, answer_of};
 ghost use Rattle.tables.specs.Steps.{Judges};
 ghost use Rattle.verdict.specs.Offered.{offered, ChecksPlan};
-ghost use Rattle.verdict.specs.Steps.{Sound, Given, FactsAt, start_in, Nearer, Next, step_fails};
+ghost use Rattle.verdict.specs.Steps.{Sound, Given, FactsAt, start_in, Nearer, Next};
 
 use tables::{Answer, Ask, Loaded};
 
@@ -20,7 +20,7 @@ use tables::{Answer, Ask, Loaded};
 fn ends_at(start: u16, duration: u16, t: u32) -> bool
     ensures { result ≡ (start_in start && eqb (start + duration) t) }
 {
-    start != 65535 && start as u32 + duration as u32 == t
+    start != 65535 && u32::from(start) + u32::from(duration) == t
 }
 
 // The facts after a job that finishes now, or as they were.
@@ -52,17 +52,14 @@ fn after_finishes(l: Loaded, q: Ask, s: &[u16], t: u32, before: u64) -> u64
 fn nearer(start: u16, duration: u16, from: u32, best: u32) -> u32
     ensures { Nearer start duration from best result }
 {
-    let end = start as u32 + duration as u32;
+    let end = u32::from(start) + u32::from(duration);
     if start == 65535 {
         return best;
     }
     if end <= from {
         return best;
     }
-    if best <= end {
-        return best;
-    }
-    end
+    end.min(best)
 }
 
 // The next finish after `from` and before till, or till.
@@ -84,7 +81,7 @@ pub fn facts_at(l: Loaded, q: Ask, s: &[u16], t: u16) -> u64
     requires { Given q s.now }
     ensures { FactsAt (problem l q) (starts s.now) t result }
 {
-    let till = t as u32 + 1;
+    let till = u32::from(t) + 1;
     let mut state = q.opening;
     let mut next = next_finish(l, q, s, 0, till);
     while next < till {
@@ -98,7 +95,7 @@ pub fn facts_at(l: Loaded, q: Ask, s: &[u16], t: u16) -> u64
 fn ends_after(start: u16, duration: u16, gap: u16, t: u16) -> bool
     ensures { result ≡ (start_in start && ltb t (start + duration + gap)) }
 {
-    start != 65535 && (t as u32) < start as u32 + duration as u32 + gap as u32
+    start != 65535 && u32::from(t) < u32::from(start) + u32::from(duration) + u32::from(gap)
 }
 
 // The job is in and starts before its release.
@@ -128,18 +125,12 @@ fn overlap(l: Loaded, q: Ask, s: &[u16], i: usize, j: usize) -> bool
     false
 }
 
-// The lowest job above i with which it overlaps and interferes, or the job count.
-fn first_above(l: Loaded, q: Ask, s: &[u16], i: usize) -> usize
+// The lowest job above i with which it overlaps and interferes.
+fn first_above(l: Loaded, q: Ask, s: &[u16], i: usize) -> Option<usize>
     requires { Given q s.now × (i < q.jobs) }
-    ensures { result ≡ least (overlap_above (problem l q) (starts s.now) i) q.jobs }
+    ensures { result ≡ some_least (overlap_above (problem l q) (starts s.now) i) q.jobs }
 {
-    let n = q.jobs;
-    for j in i + 1..n {
-        if overlap(l, q, s, i, j) {
-            return j;
-        }
-    }
-    n
+    facts::first(q.jobs, |j| i < j && overlap(l, q, s, i, j))
 }
 
 // The fact over which job i clashes with that job.
@@ -147,26 +138,24 @@ fn clash_fact(l: Loaded, q: Ask, s: &[u16], i: usize) -> u8
     requires { Given q s.now × (i < q.jobs) × T (clashes (problem l q) (starts s.now) i) }
     ensures { result ≡ clash_fact (problem l q) (starts s.now) i }
 {
-    let j = first_above(l, q, s, i);
+    let j = first_above(l, q, s, i).unwrap();
     let why = interference::why_clash(tables::job_at(l, i), tables::job_at(l, j));
     why.fact
 }
 
-// The lowest fact that is wanted and not there, 64 for none.
-fn first_lacking(have: u64, want: u64) -> u32
-    ensures { result ≡ least (λ p. has want p && not (has have p)) 64 }
+// The lowest fact that is wanted and not there.
+fn first_lacking(have: u64, want: u64) -> Option<usize>
+    ensures { result ≡ some_least (λ p. has want p && not (has have p)) 64 }
 {
-    facts::lowest(want & !have)
+    let mut lacking = facts::each(facts::less(want, have));
+    lacking.next()
 }
 
 // The moment the gap before t; 0 where there is none.
 fn earlier(t: u16, gap: u16) -> u16
     ensures { result ≡ t - gap }
 {
-    if t < gap {
-        return 0;
-    }
-    t - gap
+    t.saturating_sub(gap)
 }
 
 // Job i is in and misses a condition at its start: what finishes less than the gap before is not seen.
@@ -179,46 +168,37 @@ fn unready(l: Loaded, q: Ask, s: &[u16], i: usize) -> bool
     }
     let a = l.jobs[i];
     let state = facts_at(l, q, s, earlier(s[i], tables::gap(q)));
-    first_lacking(state, a.conditions) < 64
+    first_lacking(state, a.conditions).is_some()
 }
 
-// Job i fails check 11, 21, 12 or 13.
-fn step_fails(l: Loaded, q: Ask, s: &[u16], i: usize, check: u8) -> bool
+// Job i is in and ends after the bound.
+fn late(l: Loaded, q: Ask, s: &[u16], i: usize) -> bool
     requires { Given q s.now × (i < q.jobs) }
-    ensures { result ≡ step_fails check (problem l q) q.bound (starts s.now) i }
+    ensures { result ≡ late (problem l q) q.bound (starts s.now) i }
 {
-    if check == 11 {
-        let a = l.jobs[i];
-        return ends_after(s[i], a.duration, 0, q.bound);
-    }
-    if check == 21 {
-        let a = l.jobs[i];
-        return starts_early(s[i], a.release);
-    }
-    if check == 12 {
-        return first_above(l, q, s, i) < q.jobs;
-    }
-    unready(l, q, s, i)
+    ends_after(s[i], l.jobs[i].duration, 0, q.bound)
 }
 
-// The lowest job that fails it, or the job count.
-fn first_step(l: Loaded, q: Ask, s: &[u16], check: u8) -> usize
-    requires { Given q s.now }
-    ensures { result ≡ least (step_fails check (problem l q) q.bound (starts s.now)) q.jobs }
+// Job i is in and starts before its release.
+fn early(l: Loaded, q: Ask, s: &[u16], i: usize) -> bool
+    requires { Given q s.now × (i < q.jobs) }
+    ensures { result ≡ early (problem l q) (starts s.now) i }
 {
-    let n = q.jobs;
-    for i in 0..n {
-        if step_fails(l, q, s, i, check) {
-            return i;
-        }
-    }
-    n
+    starts_early(s[i], l.jobs[i].release)
 }
 
-// The lowest goal that is missing at the bound, 64 for none.
-fn first_missing(l: Loaded, q: Ask, s: &[u16]) -> u32
+// Job i clashes with a job above it.
+fn clashes(l: Loaded, q: Ask, s: &[u16], i: usize) -> bool
+    requires { Given q s.now × (i < q.jobs) }
+    ensures { result ≡ clashes (problem l q) (starts s.now) i }
+{
+    first_above(l, q, s, i).is_some()
+}
+
+// The lowest goal that is missing at the bound.
+fn first_missing(l: Loaded, q: Ask, s: &[u16]) -> Option<usize>
     requires { Given q s.now }
-    ensures { result ≡ least (missing (problem l q) q.bound (starts s.now)) 64 }
+    ensures { result ≡ some_least (missing (problem l q) q.bound (starts s.now)) 64 }
 {
     first_lacking(facts_at(l, q, s, q.bound), q.goals)
 }
@@ -229,25 +209,20 @@ fn steps_fault(l: Loaded, q: Ask, s: &[u16]) -> Answer
     ensures { result ≡ answer_of (plan_checks (problem l q) q.bound (starts s.now) accepted) 0 0 }
 {
     let n = q.jobs;
-    let late = first_step(l, q, s, 11);
-    if late < n {
-        return tables::refuse(11, late as u16, 0);
+    if let Some(i) = facts::first(n, |i| late(l, q, s, i)) {
+        return tables::refuse(11, i as u16, 0);
     }
-    let early = first_step(l, q, s, 21);
-    if early < n {
-        return tables::refuse(21, early as u16, 0);
+    if let Some(i) = facts::first(n, |i| early(l, q, s, i)) {
+        return tables::refuse(21, i as u16, 0);
     }
-    let clash = first_step(l, q, s, 12);
-    if clash < n {
-        let fact = clash_fact(l, q, s, clash);
-        return tables::refuse_for(12, fact, clash as u16, 0);
+    if let Some(i) = facts::first(n, |i| clashes(l, q, s, i)) {
+        let fact = clash_fact(l, q, s, i);
+        return tables::refuse_for(12, fact, i as u16, 0);
     }
-    let unready = first_step(l, q, s, 13);
-    if unready < n {
-        return tables::refuse(13, unready as u16, 0);
+    if let Some(i) = facts::first(n, |i| unready(l, q, s, i)) {
+        return tables::refuse(13, i as u16, 0);
     }
-    let goal = first_missing(l, q, s);
-    if goal < 64 {
+    if let Some(goal) = first_missing(l, q, s) {
         return tables::refuse(14, goal as u16, 0);
     }
     tables::done(0)

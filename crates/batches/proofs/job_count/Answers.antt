@@ -1,44 +1,33 @@
-use mathlib.Core.Path.{◌≡◌, sym, ap, ap₂, ◌∙◌}
+use mathlib.Core.Path.{sym, ap, ap₂, ◌∙◌}
+use mathlib.Core.List.{List}
 use Prim.Native.Nat.{ℕ, ◌+◌}
+use Rattle.batches.specs.declared.Stage.{Stage}
 use native.Mathlib.Omega.{arith}
 use lib.ListN.{length, get_or}
-use Rattle.batches.specs.Batches.{group_stages, batch_stages, jobs_up_to, first_job}
+use Rattle.batches.specs.Batches.{group_stages, batch_stages, jobs_up_to}
 use Rattle.batches.proofs.Laws.{group_fair, up_to_le, first_job_le, sum_next, sum_none}
 use Rattle.batches.proofs.job_count.Goals as goal
 
-pub loop-b-init : goal.loop-b-init
-loop-b-init c = (omega arith, sym (sum_none _))
+pub loop-group-init : goal.loop-group-init
+loop-group-init c = sym (sum_none _)
 
-pub bounds-groups-b : goal.bounds-groups-b
-bounds-groups-b c = omega arith
-
-pub overflow_cast-groups : goal.overflow_cast-groups
-overflow_cast-groups c = omega (arith, c.requires.0 c.loop-b.b (omega arith))
+pub stages_of-requires : goal.stages_of-requires
+stages_of-requires c = rw c.from.ensures (c.requires.0 c.loop-group.group-index c.loop-group-test.true)
 
 pub group_jobs-jobs-requires : goal.group_jobs-jobs-requires
-group_jobs-jobs-requires c = c.requires.0 c.loop-b.b (omega arith)
+group_jobs-jobs-requires c =
+    let i = c.loop-group.group-index in
+    rw (c.stages_of.ensures, c.from.ensures) (group_fair (get_or c.args.groups.now i 0) (c.requires.0 i c.loop-group-test.true)).few
 
 pub overflow_add-jobs : goal.overflow_add-jobs
 overflow_add-jobs c =
-    let b = c.loop-b in
+    let b = c.loop-group in
     let gs = c.args.groups.now in
-    let g = get_or gs b.b 0 in
-    omega (arith, b.invariant.1, first_job_le gs c.requires.0 b.b (omega arith), c.requires.1, c.group_jobs-jobs.ensures, up_to_le (group_stages g) (length (group_stages g)), (group_fair g (c.requires.0 b.b (omega arith))).few)
+    let ss = c.stages_of.result.now in
+    omega (arith, b.invariant, first_job_le gs c.requires.0 b.group-index b.auto.group-index-end, c.requires.1, c.group_jobs-jobs.ensures, up_to_le ss (length ss))
 
-pub overflow_step-b : goal.overflow_step-b
-overflow_step-b c = omega arith
-
-pub loop-b-smaller : goal.loop-b-smaller
-loop-b-smaller c = omega arith
-
-pub loop-b-preserved : goal.loop-b-preserved
-loop-b-preserved c =
-    let b = c.loop-b in
+pub loop-group-preserved : goal.loop-group-preserved
+loop-group-preserved c =
     let gs = c.args.groups.now in
-    (omega arith, ap₂ (λ (m n : ℕ). m + n) b.invariant.1 c.group_jobs-jobs.ensures ∙ sym (sum_next (λ k. jobs_up_to (batch_stages gs k) (length (batch_stages gs k))) b.b))
-
-pub returns : goal.returns
-returns c =
-    let gs = c.args.groups.now in
-    let e : c.loop-b.b ≡ length gs = omega (arith, c.loop-b.invariant.0) in
-    c.loop-b.invariant.1 ∙ ap (first_job gs) e
+    ap₂ (λ (m n : ℕ). m + n) c.loop-group.invariant (c.group_jobs-jobs.ensures ∙ ap (λ (ss : List Stage). jobs_up_to ss (length ss)) (c.stages_of.ensures ∙ ap group_stages c.from.ensures))
+    ∙ sym (sum_next (λ k. jobs_up_to (batch_stages gs k) (length (batch_stages gs k))) c.loop-group.group-index)

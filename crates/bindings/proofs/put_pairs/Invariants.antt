@@ -1,5 +1,4 @@
 use mathlib.Core.Path.{◌≡◌}
-use Prim.Native.Nat.{◌-◌, ◌≤◌}
 use lib.ListN.{length}
 use Rattle.rules.specs.Pairs.{joined}
 use Rattle.rules.specs.Plans.{starts}
@@ -8,7 +7,4 @@ use Rattle.bindings.specs.Steps.{pair_row, Appends}
 use Rattle.bindings.proofs.put_pairs.Given as goal
 
 abbrev pub invariant-loop-a : goal.invariant-loop-a
-invariant-loop-a l = (l.a ≤ l.n) × (length l.out ≡ length l.initial.out) × Appends (joined (λ x. pair_row (problem l.l l.q) (starts l.s) x l.q.jobs) l.a) 0 l.initial.out l.out l.next
-
-abbrev pub decreases-loop-a : goal.decreases-loop-a
-decreases-loop-a l = l.n - l.a
+invariant-loop-a l = (length l.out ≡ length l.initial.out) × Appends (joined (λ x. pair_row (problem l.l l.q) (starts l.s) x l.q.jobs) l.a) 0 l.initial.out l.out l.next

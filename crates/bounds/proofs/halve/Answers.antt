@@ -3,14 +3,8 @@ use native.Mathlib.Omega.{arith}
 use borrow.Author.Tests.{not-true, not-false}
 use Rattle.bounds.proofs.halve.Goals as goal
 
-pub any_at-requires : goal.any_at-requires
-any_at-requires c = served_to (kept_refl _) c.requires.0 (omega arith)
-
 pub returns-then-not-any_at : goal.returns-then-not-any_at
 returns-then-not-any_at c = halves_up c.any_at.ensures (not-true _ c.if-not-any_at.true-raw) (omega arith) (omega arith) c.requires.1
-
-pub last_end-end-requires : goal.last_end-end-requires
-last_end-end-requires c = (served_to c.any_at.ensures.kept c.requires.0 (omega arith), (c.any_at.ensures.some (not-false _ c.if-not-any_at.false-raw)).size)
 
 pub overflow_cast-result : goal.overflow_cast-result
 overflow_cast-result c = omega (arith, ends_within c.any_at.ensures (not-false _ c.if-not-any_at.false-raw) c.last_end-end.ensures (served_to (kept_refl _) c.requires.0 (omega arith)), c.requires.0.short)

@@ -1,34 +1,33 @@
-use lib.ListN.{get_or}
-use mathlib.Core.Path.{ap₂, ◌≡◌, refl, ap, ◌∙◌}
-use Prim.Native.Nat.{ℕ, ◌+◌, ◌-◌}
+use mathlib.Core.Path.{◌≡◌, refl, ap, ap₂, ◌∙◌}
+use Prim.Native.Nat.{ℕ, suc, ◌+◌, ◌-◌}
 use native.Mathlib.Omega.{arith}
 use Rattle.bytes_le.specs.Little.{number}
 use Rattle.bytes_le.proofs.Numbers.{number_more, holds_more, within_eight}
 use Rattle.bytes_le.proofs.number.Goals as goal
 
-pub loop-i-init : goal.loop-i-init
+pub loop-place-init : goal.loop-place-init
 unfolding number
-loop-i-init c = (omega arith, refl, omega arith)
+loop-place-init c =
+    let e : c.args.at + c.args.size - (c.args.at + c.args.size) ≡ 0 = omega arith in
+    rw e (omega arith, refl, omega arith)
 
 pub overflow_mul-value : goal.overflow_mul-value
-overflow_mul-value c = let h = holds_more _ _ 0 c.loop-i.invariant.2 (omega arith) in let m = within_eight (c.loop-i.i + 1) _ (omega arith) h in omega arith
-
-pub overflow_cast-value : goal.overflow_cast-value
-overflow_cast-value c =
-    let a = c.args in
-    omega (arith, c.shared_slice_known-1.given (a.at + a.size - 1 - c.loop-i.i))
+overflow_mul-value c = let h = holds_more _ _ 0 c.loop-place.invariant.2 (omega arith) in let m = within_eight _ _ (omega arith) h in omega arith
 
 pub overflow_add-value : goal.overflow_add-value
-overflow_add-value c =
-    let a = c.args in
-    let h = holds_more _ _ _ c.loop-i.invariant.2 (c.shared_slice_known-1.given (a.at + a.size - 1 - c.loop-i.i)).fits in let m = within_eight (c.loop-i.i + 1) _ (omega arith) h in omega arith
+overflow_add-value c = let h = holds_more _ _ c.from.result c.loop-place.invariant.2 (omega arith) in let m = within_eight _ _ (omega arith) h in omega arith
 
-pub loop-i-preserved : goal.loop-i-preserved
-loop-i-preserved c =
+pub loop-place-preserved : goal.loop-place-preserved
+loop-place-preserved c =
     let a = c.args in
-    (omega arith, number_more c.loop-i.i a.bytes.now _ _ _ (c.loop-i.invariant.1 ∙ ap (number c.loop-i.i a.bytes.now) (omega arith)) (ap (λ (n : ℕ). get_or a.bytes.now n 0) (omega arith)), holds_more _ _ _ c.loop-i.invariant.2 (c.shared_slice_known-1.given (a.at + a.size - 1 - c.loop-i.i)).fits)
+    let p = c.loop-place.place in
+    let k : a.at + a.size - (p - 1) ≡ a.at + a.size - p + 1 = omega arith in
+    let s : p ≡ suc (p - 1) = omega arith in
+    rw k (omega arith, number_more _ a.bytes.now (p - 1) _ _ (c.loop-place.invariant.1 ∙ ap (number (a.at + a.size - p) a.bytes.now) s) c.from.ensures, holds_more _ _ _ c.loop-place.invariant.2 (omega arith))
 
 pub returns : goal.returns
 returns c =
     let a = c.args in
-    let e : c.loop-i.i ≡ a.size = omega arith in record { says = c.loop-i.invariant.1 ∙ ap₂ (λ (k at : ℕ). number k a.bytes.now at) e (omega arith); fits = rw e at c.loop-i.invariant.2 }
+    let at : c.loop-place.place ≡ a.at = omega arith in
+    let k : a.at + a.size - c.loop-place.place ≡ a.size = omega arith in
+    record { says = c.loop-place.invariant.1 ∙ ap₂ (λ (n p : ℕ). number n a.bytes.now p) k at; fits = rw k at c.loop-place.invariant.2 }

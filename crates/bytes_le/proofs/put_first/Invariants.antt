@@ -1,10 +1,7 @@
-use Prim.Native.Nat.{◌-◌, ◌/◌, ◌^◌, ◌≤◌}
+use Prim.Native.Nat.{◌/◌, ◌^◌}
 use mathlib.Core.Path.{◌≡◌}
 use Rattle.bytes_le.specs.Little.{little, at_front}
 use Rattle.bytes_le.proofs.put_first.Given as goal
 
-abbrev pub invariant-loop-i : goal.invariant-loop-i
-invariant-loop-i l = (l.i ≤ l.size) × (l.left ≡ l.value / 256 ^ l.i) × (l.out ≡ at_front (little l.i l.value) l.initial.out)
-
-abbrev pub decreases-loop-i : goal.decreases-loop-i
-decreases-loop-i l = l.size - l.i
+abbrev pub invariant-loop-byte : goal.invariant-loop-byte
+invariant-loop-byte l = (l.left ≡ l.value / 256 ^ l.byte-index) × (l.byte-items ≡ at_front (little l.byte-index l.value) l.initial.byte-items)

@@ -1,16 +1,10 @@
 use mathlib.Core.Path.{refl}
 use native.Mathlib.Omega.{arith}
-use Rattle.cells.proofs.Changes.{none, say}
+use Rattle.std.proofs.Common.{rules}
+use Rattle.cells.proofs.Changes.{say}
 use Rattle.crowds.proofs.Laws.{stands_after}
 use Rattle.crowds.proofs.after.Goals as goal
 
-pub returns-then-h-eq0 : goal.returns-then-h-eq0
-returns-then-h-eq0 c = none
-
 pub returns-then-within : goal.returns-then-within
 returns-then-within c =
-    say (rw c.wide.ensures at c.from.ensures)
-    (λ P wf x Q q. stands_after c.requires.0 refl x (omega (arith, c.if-h-eq0.false)) (rw c.row_sure.ensures at (c.within.ensures.yea c.if-within.true)) Q q)
-
-pub returns-else-within : goal.returns-else-within
-returns-else-within c = none
+    say (rw c.from.ensures at c.from-then-within.ensures) (λ P wf x Q q. stands_after c.requires.0 refl x (omega (arith, c.if-h-ne0.true)) (rw c.row_sure.ensures at (c.within.ensures.yea (search rules))) Q q)

@@ -3,8 +3,5 @@ use Rattle.cells.specs.View.{Says}
 use Rattle.crowds.specs.Heaps.{AllAfter}
 use Rattle.crowds.proofs.ahead_all.Given as goal
 
-abbrev pub invariant-loop-v : goal.invariant-loop-v
-invariant-loop-v l = Over 32 l.w l.v × Says (AllAfter l.w l.k) l.initial.s l.s
-
-abbrev pub decreases-loop-v : goal.decreases-loop-v
-decreases-loop-v l = l.v
+abbrev pub invariant-loop-a : goal.invariant-loop-a
+invariant-loop-a l = Over 64 l.w l.a-iterator.left × Says (AllAfter l.w l.k) l.initial.s l.s

@@ -1,24 +1,10 @@
-use mathlib.Core.Bool.{false≢true}
-use mathlib.Core.Path.{subst}
-use borrow.Author.Tests.{not-false}
-use Prim.Native.Nat.{ℕ, ◌≤◌, ◌<◌}
-use Rattle.facts.proofs.Walks.{done_none, done_next, done_all}
+use Rattle.std.proofs.Common.{rules}
+use Prim.Native.Nat.{◌≤◌, ◌<◌}
 use Rattle.cells.specs.View.{view}
+use Rattle.facts.proofs.Passed.{all_passed}
 use Rattle.crowds.proofs.late.Goals as goal
 
-pub loop-v-init : goal.loop-v-init
-loop-v-init c = done_none
-
-pub returns-then-not-late_at : goal.returns-then-not-late_at
-returns-then-not-late_at c e = absurd (false≢true e)
-
-pub loop-v-smaller : goal.loop-v-smaller
-loop-v-smaller c = c.rest-v.ensures.less
-
-pub loop-v-preserved : goal.loop-v-preserved
-loop-v-preserved c =
-    let a = c.args in
-    done_next c.loop-v.invariant c.rest-v.ensures (subst (λ (j : ℕ). (j < 24) × (a.from ≤ (view a.s.now).lo j)) c.lowest.ensures (c.late_at.ensures (not-false _ c.if-not-late_at.false-raw)))
-
 pub returns : goal.returns
-returns c e a h = done_all c.loop-v.invariant c.loop-v-test.false a h
+returns c e a h =
+    let s = c.args in
+    all_passed _ _ (λ a. (a < 24) × (s.from ≤ (view s.s.now).lo a)) (λ i q k. (search rules, search rules)) _ _ _ c.all.ensures.ran e a (rw c.each.ensures h)

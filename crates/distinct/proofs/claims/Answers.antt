@@ -1,20 +1,5 @@
-use Rattle.cells.proofs.Changes.{none, then}
+use Rattle.cells.proofs.Changes.{then}
 use Rattle.distinct.proofs.claims.Goals as goal
 
-pub returns-then-p-ge64 : goal.returns-then-p-ge64
-returns-then-p-ge64 c = none
-
-pub returns-then-size : goal.returns-then-size
-returns-then-size c = none
-
-pub loop-v-init : goal.loop-v-init
-loop-v-init c = none
-
-pub loop-v-smaller : goal.loop-v-smaller
-loop-v-smaller c = c.rest-v.ensures.less
-
-pub loop-v-preserved : goal.loop-v-preserved
-loop-v-preserved c = then c.loop-v.invariant c.claim.ensures
-
-pub returns : goal.returns
-returns c = c.loop-v.invariant
+pub loop-i-preserved : goal.loop-i-preserved
+loop-i-preserved c = then c.loop-i.invariant c.claim.ensures

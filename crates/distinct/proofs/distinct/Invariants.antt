@@ -2,8 +2,5 @@ use Rattle.cells.specs.View.{Prunes}
 use Rattle.lent.specs.Lent.{Lent}
 use Rattle.distinct.proofs.distinct.Given as goal
 
-abbrev pub invariant-loop-v : goal.invariant-loop-v
-invariant-loop-v l = Prunes (Lent l.t) l.initial.s l.s
-
-abbrev pub decreases-loop-v : goal.decreases-loop-v
-decreases-loop-v l = l.v
+abbrev pub invariant-loop-p : goal.invariant-loop-p
+invariant-loop-p l = Prunes (Lent l.t) l.initial.s l.s

@@ -7,8 +7,5 @@ use Rattle.lent.specs.Lent.{wants_of}
 use Rattle.distinct.specs.Rivals.{Pinned}
 use Rattle.distinct.proofs.parted.Given as goal
 
-abbrev pub invariant-loop-v : goal.invariant-loop-v
-invariant-loop-v l = Over 64 (wants_of l.t l.c) l.v × ((b : ℕ) → T (has l.w b) → T (has l.kills b) ⊎ Pinned l.t l.kills (wants_of l.t l.c) b)
-
-abbrev pub decreases-loop-v : goal.decreases-loop-v
-decreases-loop-v l = l.v
+abbrev pub invariant-loop-q : goal.invariant-loop-q
+invariant-loop-q l = Over 64 (wants_of l.t l.c) l.q-iterator.left × ((b : ℕ) → T (has l.w b) → T (has l.kills b) ⊎ Pinned l.t l.kills (wants_of l.t l.c) b)

@@ -1,24 +1,13 @@
-use borrow.Author.Rules.{rules}
+use Rattle.std.proofs.Common.{rules, ◌≡◌, arith, ◌<◌}
 use mathlib.Core.Path.{refl, ◌∙◌}
-use native.Mathlib.Omega.{arith}
-use lib.ListN.{length-set}
-use Rattle.tables.specs.Tables.{problem}
-use Rattle.entries.proofs.Laws.{stored}
+use Rattle.tables.specs.Tables.{job_at, problem}
 use Rattle.estimates.specs.Rounds.{at_first}
+use Rattle.facts.proofs.Arrays.{made}
 use Rattle.estimates.proofs.Laws.{first_is}
 use Rattle.estimates.proofs.first.Goals as goal
 
-pub loop-i-init : goal.loop-i-init
-loop-i-init c = (omega arith, search rules, λ k h. absurd (omega arith))
-
-pub bounds-est-i : goal.bounds-est-i
-bounds-est-i c = omega (arith, c.loop-i.invariant.1)
-
-pub loop-i-preserved : goal.loop-i-preserved
-loop-i-preserved c =
-    let l = c.loop-i in
-    (omega arith, simp length-set l.invariant.1, stored _ l.est l.i _ (omega (arith, l.invariant.1)) l.invariant.2 c.at_first.ensures)
-
 pub returns : goal.returns
 returns c =
-    λ i m. c.loop-i.invariant.2 i (omega arith) ∙ first_is (problem c.args.l c.args.q) (λ _. 65535) (λ k l. refl) i (omega (arith, c.requires.1 i m))
+    let a = c.args in
+    λ i m. made _ _ _ 24 (λ i y. i < a.q.jobs → y ≡ at_first (job_at a.l i).conditions a.q.opening (job_at a.l i).release) (λ i y q l k. (search rules, search rules)) c.from_fn.ensures.items i 0 (omega (arith, c.requires.0)) m
+    ∙ first_is (problem a.l a.q) (λ _. 65535) (λ k l. refl) i (omega (arith, c.requires.1 i m))

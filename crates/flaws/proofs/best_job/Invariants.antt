@@ -5,8 +5,5 @@ use Rattle.lent.specs.Consumers.{SomeSafe}
 use Rattle.flaws.specs.Flaw.{Picks, SceneOf}
 use Rattle.flaws.proofs.best_job.Given as goal
 
-abbrev pub invariant-loop-w : goal.invariant-loop-w
-invariant-loop-w l = (P : Search) (p : ℕ) → SceneOf P l.s p l.x → Over 32 l.x.cands l.w × Picks l.s (SomeSafe P l.s p l.x.by) (Done (λ i. ⊥) l.x.cands l.w) l.best
-
-abbrev pub decreases-loop-w : goal.decreases-loop-w
-decreases-loop-w l = l.w
+abbrev pub invariant-loop-a : goal.invariant-loop-a
+invariant-loop-a l = (P : Search) (p : ℕ) → SceneOf P l.s p l.x → Over 64 l.x.cands l.a-iterator.left × Picks l.s (SomeSafe P l.s p l.x.by) (Done (λ i. ⊥) l.x.cands l.a-iterator.left) l.best.choice

@@ -7,8 +7,5 @@ use Rattle.lent.specs.Consumers.{SomeSafe}
 use Rattle.flaws.specs.Flaw.{Picks, OneLost}
 use Rattle.flaws.proofs.conditions.Given as goal
 
-abbrev pub invariant-loop-w : goal.invariant-loop-w
-invariant-loop-w l = (P : Search) → Lent l.t P → Picks l.s (Done (λ p. T (has (wants_of l.t l.b) p) → SomeSafe P l.s p l.b) (wants_of l.t l.b) l.w) (OneLost P l.s l.b (wants_of l.t l.b)) l.best
-
-abbrev pub decreases-loop-w : goal.decreases-loop-w
-decreases-loop-w l = l.w
+abbrev pub invariant-loop-p : goal.invariant-loop-p
+invariant-loop-p l = (P : Search) → Lent l.t P → Picks l.s (Done (λ p. T (has (wants_of l.t l.b) p) → SomeSafe P l.s p l.b) (wants_of l.t l.b) l.p-iterator.left) (OneLost P l.s l.b (wants_of l.t l.b)) l.best.choice

@@ -12,23 +12,20 @@ use Rattle.lent.specs.Consumers.{Ordered}
 use Rattle.flaws.proofs.Flaws.{clash_next, pick_fine, pick_map, pick_urgent}
 use Rattle.flaws.proofs.mutex_row.Goals as goal
 
-pub returns-then-a-ge24 : goal.returns-then-a-ge24
-returns-then-a-ge24 c P e = pick_fine c.fine.ensures (λ l. absurd (omega arith))
+pub loop-b-init : goal.loop-b-init
+loop-b-init c =
+    let a = c.args in
+    rw (c.into_iter-b-iterator.ensures.into_iter_gives, c.each-b-items.ensures, c.hits.ensures, c.insides.ensures)
+    (over_both (hits_of a.t.now a.a) (word_at a.s.now ins) (omega arith), λ P e. rw c.foremost-best.ensures (pick_fine done_none))
 
-pub loop-w-init : goal.loop-w-init
-loop-w-init c = let a = c.args in rw (c.hits.ensures, c.insides.ensures) (over_both (hits_of a.t.now a.a) (word_at a.s.now ins) (omega arith), λ P e. pick_fine c.fine-best.ensures done_none)
-
-pub loop-w-smaller : goal.loop-w-smaller
-loop-w-smaller c = c.rest-w.ensures.less
-
-pub loop-w-preserved : goal.loop-w-preserved
-loop-w-preserved c =
-    let i = c.loop-w.invariant in
-    let low = c.lowest.ensures in (
-      over_next i.0 c.rest-w.ensures,
+pub loop-b-preserved : goal.loop-b-preserved
+loop-b-preserved c =
+    let i = c.loop-b.invariant in
+    let s = c.in-Some.ensures.steps in (
+      over_next i.0 s.2,
       λ P e.
-          pick_map (λ x. done_next x.0 c.rest-w.ensures (rw low at x.1)) (λ n. n)
-          (pick_urgent c.urgent-best.ensures (i.1 P e) (c.threat.ensures P (clash_next e (omega arith) i.0 c.loop-w-test.true low))),
+          pick_map (λ x. done_next x.0 s.2 (rw s.1 at x.1)) (λ n. n)
+          (pick_urgent c.urgent-best.ensures (i.1 P e) (c.threat.ensures P (clash_next e (omega arith) i.0 (λ z. omega arith) s.1))),
     )
 
 pub returns : goal.returns
@@ -36,4 +33,4 @@ returns c P e =
     let a = c.args in
     let h = hits_of a.t.now a.a in
     let w = word_at a.s.now ins in
-    pick_map (λ f l b k x i j. done_all {X = λ b. b < 24 → Ordered a.s.now a.a b} f c.loop-w-test.false b (subst T (sym (has_and h w b)) (and_of (has h b) (has w b) x j)) k i j) (λ n. n) (c.loop-w.invariant.1 P e)
+    pick_map (λ f l b k x i j. done_all {X = λ b. b < 24 → Ordered a.s.now a.a b} f c.in-None.ensures.steps b (subst T (sym (has_and h w b)) (and_of (has h b) (has w b) x j)) k i j) (λ n. n) (c.loop-b.invariant.1 P e)

@@ -8,8 +8,5 @@ use Rattle.lent.specs.Consumers.{Ordered}
 use Rattle.flaws.specs.Flaw.{Picks}
 use Rattle.flaws.proofs.mutex_row.Given as goal
 
-abbrev pub invariant-loop-w : goal.invariant-loop-w
-invariant-loop-w l = Over 32 (hits_of l.t l.a) l.w × ((P : Search) → Lent l.t P → Picks l.s (Done (λ b. b < 24 → Ordered l.s l.a b) (bit_and (hits_of l.t l.a) (word_at l.s ins)) l.w) (Dead P (view l.s)) l.best)
-
-abbrev pub decreases-loop-w : goal.decreases-loop-w
-decreases-loop-w l = l.w
+abbrev pub invariant-loop-b : goal.invariant-loop-b
+invariant-loop-b l = Over 64 (hits_of l.t l.a) l.b-iterator.left × ((P : Search) → Lent l.t P → Picks l.s (Done (λ b. b < 24 → Ordered l.s l.a b) (bit_and (hits_of l.t l.a) (word_at l.s ins)) l.b-iterator.left) (Dead P (view l.s)) l.best.choice)

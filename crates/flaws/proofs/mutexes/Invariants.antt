@@ -5,8 +5,5 @@ use Rattle.lent.specs.Lent.{Lent}
 use Rattle.flaws.specs.Flaw.{Picks, RowOrdered}
 use Rattle.flaws.proofs.mutexes.Given as goal
 
-abbrev pub invariant-loop-w : goal.invariant-loop-w
-invariant-loop-w l = (P : Search) → Lent l.t P → Picks l.s (Done (RowOrdered l.s l.t) (word_at l.s ins) l.w) (Dead P (view l.s)) l.best
-
-abbrev pub decreases-loop-w : goal.decreases-loop-w
-decreases-loop-w l = l.w
+abbrev pub invariant-loop-a : goal.invariant-loop-a
+invariant-loop-a l = (P : Search) → Lent l.t P → Picks l.s (Done (RowOrdered l.s l.t) (word_at l.s ins) l.a-iterator.left) (Dead P (view l.s)) l.best.choice

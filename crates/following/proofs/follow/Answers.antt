@@ -43,7 +43,7 @@ returns-then-not-may_come c =
     (c.in_step.ensures.yea (not-false _ c.if-not-in_step.false-raw)) in
     subst (Following a.l a.w a.starts.now) (sym c.dark-then-not-may_come.ensures)
     (refused_event a.l a.w a.starts.now c.plan_fault-said.ensures c.if-said-ne0.false step _ c.free_jobs-free.ensures
-    (test_no c.may_come.ensures (not-true _ c.if-not-may_come.true-raw)) c.refuse-then-not-may_come.ensures)
+    (test_no c.may_come.ensures (not-true _ c.if-not-may_come.true-raw)) (rw c.from.ensures at c.refuse-then-not-may_come.ensures))
 
 pub after_event-requires : goal.after_event-requires
 after_event-requires c =

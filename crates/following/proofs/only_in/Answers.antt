@@ -12,7 +12,7 @@ returns-then-j-ge64 c =
     same _ _ (λ t. absurd t) (λ t. absurd (omega (arith, has_lt 64 x.a x.j c.ranges.a.fits (and_l (has x.a x.j) _ t))))
 
 pub returns-then-has : goal.returns-then-has
-returns-then-has c = and_next c.has.ensures c.if-has.true (ap not c.has-then-has.ensures)
+returns-then-has c = rw (← c.from-j.ensures) (and_next c.has.ensures c.if-has.true (ap not c.has-then-has.ensures))
 
 pub returns-else-has : goal.returns-else-has
-returns-else-has c = and_first _ c.has.ensures c.if-has.false
+returns-else-has c = rw (← c.from-j.ensures) (and_first _ c.has.ensures c.if-has.false)

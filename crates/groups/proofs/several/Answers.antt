@@ -1,12 +1,5 @@
-use mathlib.Core.Path.{refl}
 use Rattle.groups.proofs.Laws.{chosen_candidates}
 use Rattle.groups.proofs.several.Goals as goal
-
-pub returns-then-ready-ne0 : goal.returns-then-ready-ne0
-returns-then-ready-ne0 c h i P e n = absurd (n refl)
-
-pub returns-then-may_start : goal.returns-then-may_start
-returns-then-may_start c h i P e n = absurd (n refl)
 
 pub returns : goal.returns
 returns c =

@@ -18,8 +18,8 @@ returns c =
           c.put-3.ensures,
           (
             _,
-            c.put-4.ensures,
-            (_, c.put-5.ensures, (_, c.put-6.ensures, refl)),
+            rw c.from.ensures at c.put-4.ensures,
+            (_, rw c.from-2.ensures at c.put-5.ensures, (_, c.put-6.ensures, refl)),
           ),
         ),
       ),

@@ -15,13 +15,13 @@ returns c =
         c.put-2.ensures,
         (
           _,
-          c.put-3.ensures,
+          rw c.from.ensures at c.put-3.ensures,
           (
             _,
             c.put-4.ensures,
             (
               _,
-              c.put-5.ensures,
+              rw c.from-2.ensures at c.put-5.ensures,
               (_, c.put-6.ensures, refl),
             ),
           ),

@@ -21,66 +21,11 @@ returns-then-too_long c =
     let a = c.args in
     writes_no a.l a.q a.used a.buf.now c.refuse.ensures (if_hit _ 1 0 _ (test_yes c.too_long.ensures.says c.if-too_long.true)) (λ z. omega arith)
 
-pub overflow_mul-end : goal.overflow_mul-end
-overflow_mul-end c =
-    let short : length_after c.args.used c.args.q.jobs ≤ 65536 = c.too_long.ensures.fails c.if-too_long.false in
-    let r = short in omega arith
-
-pub overflow_add-end : goal.overflow_add-end
-overflow_add-end c =
-    let short : length_after c.args.used c.args.q.jobs ≤ 65536 = c.too_long.ensures.fails c.if-too_long.false in
-    let r = short in omega arith
-
-pub overflow_add-end-2 : goal.overflow_add-end-2
-overflow_add-end-2 c =
-    let short : length_after c.args.used c.args.q.jobs ≤ 65536 = c.too_long.ensures.fails c.if-too_long.false in
-    let r = short in omega arith
-
 pub returns-then-a-ne0 : goal.returns-then-a-ne0
 unfolding write_checks
 returns-then-a-ne0 c =
     let a = c.args in
     writes_no a.l a.q a.used a.buf.now c.call_fault-a.ensures.says (if_pass _ 1 0 _ (test_no c.too_long.ensures.says c.if-too_long.false)) (λ z. c.if-a-ne0.true (ap (λ (x : Answer). x.number) c.call_fault-a.ensures.says ∙ z))
-
-pub slice_bounds-put_records-count : goal.slice_bounds-put_records-count
-slice_bounds-put_records-count c =
-    let room : (length_after c.args.used c.args.q.jobs ≤ length c.args.buf.now) × (c.args.q.jobs ≤ 24) = let h = c.call_fault-a.ensures.order c.if-a-ne0.false in (at_most _ _ h.room, h.few) in
-    let r = room in omega arith
-
-pub slice_bounds-put_records-start : goal.slice_bounds-put_records-start
-slice_bounds-put_records-start c =
-    let room : (length_after c.args.used c.args.q.jobs ≤ length c.args.buf.now) × (c.args.q.jobs ≤ 24) = let h = c.call_fault-a.ensures.order c.if-a-ne0.false in (at_most _ _ h.room, h.few) in
-    let r = room in omega arith
-
-pub put_records-requires : goal.put_records-requires
-put_records-requires c =
-    let room : (length_after c.args.used c.args.q.jobs ≤ length c.args.buf.now) × (c.args.q.jobs ≤ 24) = let h = c.call_fault-a.ensures.order c.if-a-ne0.false in (at_most _ _ h.room, h.few) in
-    let r = room in (r.1, omega arith)
-
-pub slice_bounds-put_trailer-count : goal.slice_bounds-put_trailer-count
-slice_bounds-put_trailer-count c =
-    let room : (length_after c.args.used c.args.q.jobs ≤ length c.args.buf.now) × (c.args.q.jobs ≤ 24) = let h = c.call_fault-a.ensures.order c.if-a-ne0.false in (at_most _ _ h.room, h.few) in
-    let r = room in omega arith
-
-pub slice_bounds-put_trailer-start : goal.slice_bounds-put_trailer-start
-slice_bounds-put_trailer-start c =
-    let room : (length_after c.args.used c.args.q.jobs ≤ length c.args.buf.now) × (c.args.q.jobs ≤ 24) = let h = c.call_fault-a.ensures.order c.if-a-ne0.false in (at_most _ _ h.room, h.few) in
-    let r = room in omega arith
-
-pub put_trailer-requires : goal.put_trailer-requires
-put_trailer-requires c =
-    let room : (length_after c.args.used c.args.q.jobs ≤ length c.args.buf.now) × (c.args.q.jobs ≤ 24) = let h = c.call_fault-a.ensures.order c.if-a-ne0.false in (at_most _ _ h.room, h.few) in
-    let r = room in (r.1, omega arith)
-
-pub overflow_add-end-3 : goal.overflow_add-end-3
-overflow_add-end-3 c =
-    let short : length_after c.args.used c.args.q.jobs ≤ 65536 = c.too_long.ensures.fails c.if-too_long.false in
-    let r = short in omega arith
-
-pub overflow_cast-end : goal.overflow_cast-end
-overflow_cast-end c =
-    let short : length_after c.args.used c.args.q.jobs ≤ 65536 = c.too_long.ensures.fails c.if-too_long.false in
-    let r = short in omega arith
 
 pub returns : goal.returns
 unfolding write_checks save_of

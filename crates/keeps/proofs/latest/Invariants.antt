@@ -3,8 +3,5 @@ use Rattle.facts.proofs.Walks.{Done}
 use Rattle.cells.specs.View.{view}
 use Rattle.keeps.proofs.latest.Given as goal
 
-abbrev pub invariant-loop-v : goal.invariant-loop-v
-invariant-loop-v l = Done (λ a. a < 24 → (view l.s).hi a ≤ l.x) l.group l.v
-
-abbrev pub decreases-loop-v : goal.decreases-loop-v
-decreases-loop-v l = l.v
+abbrev pub invariant-loop-a : goal.invariant-loop-a
+invariant-loop-a l = Done (λ a. a < 24 → (view l.s).hi a ≤ l.x) l.group l.a-iterator.left

@@ -1,4 +1,3 @@
-use Prim.Native.Nat.{◌-◌, ◌≤◌}
 use Rattle.facts.specs.Facts.{has}
 use Rattle.tables.specs.Tables.{problem}
 use Rattle.entries.specs.Entries.{entry}
@@ -6,7 +5,4 @@ use Rattle.lateness.specs.Steps.{LastOf}
 use Rattle.lateness.proofs.last_finish.Given as goal
 
 abbrev pub invariant-loop-j : goal.invariant-loop-j
-invariant-loop-j l = (l.j ≤ l.n) × LastOf (problem l.l l.q) (has l.q.set) (entry l.z) l.j l.last
-
-abbrev pub decreases-loop-j : goal.decreases-loop-j
-decreases-loop-j l = l.n - l.j
+invariant-loop-j l = LastOf (problem l.l l.q) (has l.q.set) (entry l.z) l.j l.last

@@ -1,4 +1,4 @@
-use Rattle.cells.proofs.Changes.{none, under}
+use Rattle.cells.proofs.Changes.{under}
 use Rattle.leads.specs.Led.{Led}
 use mathlib.Core.Path.{sym, subst}
 use Prim.Native.Nat.{ℕ}
@@ -9,6 +9,3 @@ pub returns-then-n-lt24 : goal.returns-then-n-lt24
 returns-then-n-lt24 c =
     let m = c.args.m in
     under (λ P wf e. subst (λ (n : ℕ). Led m n P) (sym c.led-n.ensures) (e.listed.leads m c.requires (omega arith) P.bound)) c.lead.ensures
-
-pub returns-else-n-lt24 : goal.returns-else-n-lt24
-returns-else-n-lt24 c = none

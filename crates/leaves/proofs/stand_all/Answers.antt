@@ -1,17 +1,17 @@
-use native.Mathlib.Omega.{arith}
-use borrow.Author.Count.{below_more}
-use borrow.Author.Tests.{not-true, not-false}
-use Rattle.leaves.proofs.Laws.{checks_fine, checks_dead}
+use mathlib.Core.Path.{refl}
+use Rattle.std.proofs.Common.{rules}
+use Rattle.std.proofs.lemmas.Iterator.{cases_from_all, YieldsList-from_range}
+use Rattle.states.specs.State.{Search, Dead}
+use Rattle.cells.specs.View.{view}
+use Rattle.lent.specs.Lent.{Lent}
+use Rattle.leaves.specs.Leaf.{InPlaceIf}
+use Rattle.leaves.proofs.Laws.{verified}
 use Rattle.leaves.proofs.stand_all.Goals as goal
 
-pub loop-j-init : goal.loop-j-init
-loop-j-init c = (omega arith, λ j l. absurd (omega arith))
-
-pub returns-then-not-stands_at : goal.returns-then-not-stands_at
-returns-then-not-stands_at c = checks_dead (c.stands_at.ensures.dead (not-true _ c.if-not-stands_at.true-raw))
-
-pub loop-j-preserved : goal.loop-j-preserved
-loop-j-preserved c = (omega arith, below_more _ _ c.loop-j.invariant.1 (c.stands_at.ensures.fine (not-false _ c.if-not-stands_at.false-raw)))
-
 pub returns : goal.returns
-returns c = checks_fine (λ j l. c.loop-j.invariant.1 j (omega arith))
+returns c =
+    let s = c.args.s.now in
+    let t = c.args.t.now in
+    verified 24
+    (cases_from_all _ _ _ (InPlaceIf s t) (λ j. (P : Search) → Lent t P → Dead P (view s)) c.all.ensures.ran (YieldsList-from_range 0 24 24 refl refl)
+    (λ x q k. search rules) (λ x q k. search rules))

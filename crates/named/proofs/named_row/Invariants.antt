@@ -1,6 +1,6 @@
 use mathlib.Core.Bool.{◌&&◌}
 use mathlib.Core.Path.{◌≡◌}
-use Prim.Native.Nat.{ℕ, ◌-◌, ◌≤◌, ◌<◌}
+use Prim.Native.Nat.{ℕ, ◌<◌}
 use lib.ListN.{length, get_or}
 use Rattle.facts.specs.Facts.{has}
 use Rattle.facts.specs.Words.{Word}
@@ -13,7 +13,4 @@ use Rattle.named.specs.Named.{consumer_of}
 use Rattle.named.proofs.named_row.Given as goal
 
 abbrev pub invariant-loop-a : goal.invariant-loop-a
-invariant-loop-a l = (l.a ≤ l.n) × (length l.by ≡ 24) × Left (problem l.l l.q) (starts l.s) (consumer_of l.c) l.want l.a l.left × ((k : ℕ) → k < l.a → Word (λ p. has l.want p && is_job k (named (problem l.l l.q) (starts l.s) p (consumer_of l.c))) (get_or l.by k 0))
-
-abbrev pub decreases-loop-a : goal.decreases-loop-a
-decreases-loop-a l = l.n - l.a
+invariant-loop-a l = (length l.by ≡ 24) × Left (problem l.l l.q) (starts l.s) (consumer_of l.c) l.want l.a l.left × ((k : ℕ) → k < l.a → Word (λ p. has l.want p && is_job k (named (problem l.l l.q) (starts l.s) p (consumer_of l.c))) (get_or l.by k 0))

@@ -16,6 +16,6 @@ returns c =
     let r = c.expand-r in
     record {
       job = job_at r.result.table;
-      expands = subst (Expands c.args.groups.now (length c.args.t.now) (job_at r.result.table)) (sym c.batched.ensures) r.ensures;
-      records = c.scatter.ensures ∙ ap (λ (b : BatchAnswer). filled (job_at r.result.table) b.jobs c.args.t.now) (sym c.batched.ensures);
+      expands = subst (Expands c.args.groups.now (length c.args.t.now) (job_at r.result.table)) (sym c.into.ensures) r.ensures;
+      records = c.scatter.ensures ∙ ap (λ (b : BatchAnswer). filled (job_at r.result.table) b.jobs c.args.t.now) (sym c.into.ensures);
     }

@@ -15,6 +15,6 @@ pub returns : goal.returns
 returns c =
     let e = c.read_file-r.ensures in
     record {
-      says = c.told.ensures ∙ ap told e;
+      says = c.into.ensures ∙ ap told e;
       records = c.scatter.ensures ∙ ap (λ (r : Read). filled (job_at r.table) r.ask.jobs c.args.t.now) e;
     }

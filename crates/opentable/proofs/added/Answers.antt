@@ -1,8 +1,3 @@
-use Rattle.opentable.proofs.added.Reads as reads
-use Rattle.opentable.proofs.added.Lts as lts
-use Rattle.opentable.proofs.judged.Reads as judged-reads
-use Rattle.opentable.proofs.overfull.Reads as overfull-reads
-use Rattle.opentable.proofs.with_record.Reads as with-record-reads
 use mathlib.Core.Path.{refl, sym, ap, subst, ◌∙◌}
 use native.Mathlib.Omega.{arith}
 use Prim.Native.Nat.{◌<◌}

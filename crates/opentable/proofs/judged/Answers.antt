@@ -1,9 +1,4 @@
 use borrow.Author.Rules.{rules}
-use Rattle.opentable.proofs.judged.Reads as reads
-use Rattle.opentable.proofs.judged.Lts as lts
-use Rattle.opentable.proofs.reclashed.Reads as reclashed-reads
-use Rattle.opentable.proofs.table_fault.Reads as table-fault-reads
-use Rattle.tables.proofs.done.Reads as done-reads
 use mathlib.Core.Path.{ap, ◌∙◌}
 use Rattle.opentable.specs.Open.{open_checks, reclashed}
 use Rattle.opentable.proofs.Edits.{both, refused_so, accepted_so, open_accepts}

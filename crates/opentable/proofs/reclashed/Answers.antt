@@ -1,13 +1,7 @@
-use Rattle.opentable.proofs.reclashed.Reads as reads
-use Rattle.opentable.proofs.reclashed.Lts as lts
-use Rattle.opentable.proofs.clash_word.Reads as clash-word-reads
-use Rattle.opentable.proofs.jobs_of.Reads as jobs-of-reads
-use Rattle.opentable.proofs.rows_anew.Reads as rows-anew-reads
 use mathlib.Core.Path.{sym, subst}
 use native.Mathlib.Omega.{arith}
 use Prim.Native.Nat.{◌≤◌}
 use Rattle.tables.specs.declared.Loaded.{Loaded}
-use Rattle.opentable.specs.Open.{jobs_of}
 use Rattle.opentable.specs.Steps.{Clashing}
 use Rattle.opentable.proofs.Laws.{reclashed_so}
 use Rattle.opentable.proofs.reclashed.Goals as goal

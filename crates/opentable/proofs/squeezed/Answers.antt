@@ -1,7 +1,4 @@
 use borrow.Author.Rules.{rules}
-use Rattle.opentable.proofs.squeezed.Reads as reads
-use Rattle.opentable.proofs.squeezed.Lts as lts
-use Rattle.jobs.proofs.outside.Reads as outside-reads
 use native.Mathlib.Omega.{arith}
 use Prim.Native.Nat.{ℕ, ◌-◌}
 use mathlib.Core.Path.{ap}

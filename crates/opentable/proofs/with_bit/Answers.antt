@@ -1,8 +1,4 @@
 use borrow.Author.Rules.{rules}
-use Rattle.opentable.proofs.with_bit.Reads as reads
-use Rattle.opentable.proofs.with_bit.Lts as lts
-use Rattle.jobs.proofs.outside.Reads as outside-reads
-use Rattle.jobs.proofs.with.Reads as with-reads
 use mathlib.Core.Path.{sym, ap, subst, ◌∙◌}
 use mathlib.Core.Bool.{Bool, not, ◌&&◌, cond}
 use Prim.Native.Nat.{ℕ}

@@ -1,14 +1,5 @@
-use Rattle.cells.proofs.Changes.{none, then}
+use Rattle.cells.proofs.Changes.{then}
 use Rattle.orders.proofs.through_all.Goals as goal
 
-pub loop-w-init : goal.loop-w-init
-loop-w-init c = none
-
-pub loop-w-smaller : goal.loop-w-smaller
-loop-w-smaller c = c.rest-w.ensures.less
-
-pub loop-w-preserved : goal.loop-w-preserved
-loop-w-preserved c = then c.loop-w.invariant c.through.ensures
-
-pub returns : goal.returns
-returns c = c.loop-w.invariant
+pub loop-m-preserved : goal.loop-m-preserved
+loop-m-preserved c = then c.loop-m.invariant c.through.ensures

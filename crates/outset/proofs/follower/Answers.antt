@@ -1,8 +1,5 @@
-use native.Mathlib.Omega.{arith}
+use Rattle.outset.proofs.Led.{led_or}
 use Rattle.outset.proofs.follower.Goals as goal
 
-pub returns-then-q-m : goal.returns-then-q-m
-returns-then-q-m c = record { within = omega arith; led = λ h. absurd (omega arith) }
-
-pub returns : goal.returns
-returns c = c.led.ensures
+pub returns-clause-led : goal.returns-clause-led
+returns-clause-led c = led_or c.args.l c.args.q c.args.m _ c.led.ensures c.unwrap_or.ensures

@@ -12,7 +12,7 @@ pub loop-b-preserved : goal.loop-b-preserved
 loop-b-preserved c =
     let a = c.args in
     let l = c.loop-b in
-    (omega arith, row_next a.row a.a a.t.now l.invariant.1 c.put_wait.ensures (narrow (search rules)))
+    (omega arith, row_next a.row a.a a.t.now l.invariant.1 c.put_wait.ensures (narrow c.from.ensures (search rules)))
 
 pub returns : goal.returns
 returns c = let e : c.loop-b.b ≡ 25 = omega arith in rw e at c.loop-b.invariant.1

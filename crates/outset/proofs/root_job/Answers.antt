@@ -16,4 +16,4 @@ returns c =
     let b = c.bound-bound in
     says_then
     (says_under c.till.ensures.says (λ P Q e k. omega (arith, in_bound e k s.ensures b.ensures)))
-    (says_under c.from.ensures (λ P Q e k. omega (arith, e.0.listed.early P.bound Q e.1 a.j k, c.wide.ensures, c.est.ensures)))
+    (says_under c.from-2.ensures (λ P Q e k. omega (arith, e.0.listed.early P.bound Q e.1 a.j k, c.from.ensures, c.est.ensures)))

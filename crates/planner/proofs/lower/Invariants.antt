@@ -3,8 +3,8 @@ use Rattle.lent.specs.Lent.{Lent}
 use Rattle.leaves.specs.Leaf.{plan_of}
 use Rattle.planner.proofs.lower.Given as goal
 
-abbrev pub invariant-loop-k : goal.invariant-loop-k
-invariant-loop-k l = LowerOk (Lent l.t) l.base l.k l.out
+abbrev pub invariant-loop : goal.invariant-loop
+invariant-loop l = LowerOk (Lent l.t) l.base l.k l.out
 
-abbrev pub decreases-loop-k : goal.decreases-loop-k
-decreases-loop-k l = plan_of l.out l.k
+abbrev pub decreases-loop : goal.decreases-loop
+decreases-loop l = plan_of l.out l.k

@@ -1,17 +1,15 @@
+use mathlib.Core.Bool.{true, false, ◌||◌}
+use mathlib.Core.Path.{◌≡◌, refl}
 use native.Mathlib.Omega.{arith}
-use borrow.Author.Count.{below_more}
-use Rattle.facts.proofs.Bools.{test_yes, test_no}
-use Rattle.facts.proofs.Least.{found, not_found}
+use Prim.Native.Nat.{ℕ}
+use Rattle.std.proofs.Common.{rules, tests}
+use Rattle.std.proofs.lemmas.Iterator.{first_from_find, YieldsList-from_range}
+use Rattle.plantext.specs.Names.{misnamed, shares_name}
+use Rattle.facts.proofs.Ranges.{first_found}
 use Rattle.plantext.proofs.first_misnamed.Goals as goal
 
-pub loop-j-init : goal.loop-j-init
-loop-j-init c = (omega arith, λ k h. absurd (omega arith))
-
-pub returns-then-bad_name : goal.returns-then-bad_name
-returns-then-bad_name c = found _ _ _ (omega arith) (test_yes c.bad_name.ensures c.if-bad_name.true) c.loop-j.invariant.1
-
-pub loop-j-preserved : goal.loop-j-preserved
-loop-j-preserved c = (omega arith, below_more _ _ c.loop-j.invariant.1 (test_no c.bad_name.ensures c.if-bad_name.false))
-
 pub returns : goal.returns
-returns c = not_found _ _ _ (omega arith) c.loop-j.invariant.1
+returns c =
+    let a = c.args in
+    let f = λ (j : ℕ). misnamed a.names.now j || shares_name a.names.now a.n j in
+    first_found f a.n c.find.result (first_from_find _ _ _ (λ x. f x ≡ true) (λ x. f x ≡ false) c.find.ensures.ran (YieldsList-from_range 0 a.n a.n refl (omega arith)) (λ x q k. search (rules, tests)) (λ x q k. search (rules, tests)))

@@ -1,23 +1,17 @@
+use mathlib.Core.Bool.{true, false, not, ◌&&◌}
+use mathlib.Core.Path.{◌≡◌, refl}
 use native.Mathlib.Omega.{arith}
-use mathlib.Core.Bool.{not, ◌&&◌}
-use Prim.Native.Nat.{◌*◌}
+use Prim.Native.Nat.{ℕ, ◌*◌}
 use lib.Dec.{eqb}
-use borrow.Author.Count.{below_more}
-use Rattle.facts.proofs.Bools.{test_yes, test_no, passes}
-use Rattle.facts.proofs.Least.{any_of, any_none}
+use Rattle.std.proofs.Common.{rules, tests}
+use Rattle.std.proofs.lemmas.Iterator.{cases_from_any, YieldsList-from_range}
 use Rattle.plantext.specs.Names.{is_named, shares_name}
+use Rattle.facts.proofs.Ranges.{any_is}
 use Rattle.plantext.proofs.shares_name.Goals as goal
-
-pub loop-i-init : goal.loop-i-init
-loop-i-init c = (omega arith, λ k h. absurd (omega arith))
-
-pub returns-then-namesake : goal.returns-then-namesake
-unfolding shares_name
-returns-then-namesake c = let a = c.args in passes _ (any_of (λ i. not (eqb i a.j) && is_named a.names.now i a.names.now (16 * a.j) 16) a.n c.loop-i.i (omega arith) (test_yes c.namesake.ensures c.if-namesake.true))
-
-pub loop-i-preserved : goal.loop-i-preserved
-loop-i-preserved c = (omega arith, below_more _ _ c.loop-i.invariant.1 (test_no c.namesake.ensures c.if-namesake.false))
 
 pub returns : goal.returns
 unfolding shares_name
-returns c = any_none _ _ (λ i l. c.loop-i.invariant.1 i (omega arith))
+returns c =
+    let a = c.args in
+    let f = λ (i : ℕ). not (eqb i a.j) && is_named a.names.now i a.names.now (16 * a.j) 16 in
+    any_is f a.n c.any.result (cases_from_any _ _ _ (λ x. f x ≡ true) (λ x. f x ≡ false) c.any.ensures.ran (YieldsList-from_range 0 a.n a.n refl (omega arith)) (λ x q k. search (rules, tests)) (λ x q k. search (rules, tests)))

@@ -1,10 +1,7 @@
 use mathlib.Core.Path.{◌≡◌}
-use Prim.Native.Nat.{◌-◌, ◌≤◌, ◌<◌, ◌^◌}
+use Prim.Native.Nat.{◌<◌, ◌^◌}
 use Rattle.plantext.specs.Form.{value_of}
 use Rattle.plantext.proofs.value_of.Given as goal
 
 abbrev pub invariant-loop-i : goal.invariant-loop-i
-invariant-loop-i l = (l.i ≤ l.digits) × (l.value ≡ value_of l.text l.at l.i) × (l.value < 256 ^ l.i)
-
-abbrev pub decreases-loop-i : goal.decreases-loop-i
-decreases-loop-i l = l.digits - l.i
+invariant-loop-i l = (l.value ≡ value_of l.text l.at l.i) × (l.value < 256 ^ l.i)

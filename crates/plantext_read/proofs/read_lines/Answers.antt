@@ -34,4 +34,4 @@ pub loop-at-preserved : goal.loop-at-preserved
 loop-at-preserved c = let a = c.args in let P = problem a.l a.q in let k = c.loop-at.k in goes_on P a.names.now a.text.now k _ _ _ _ _ c.loop-at.invariant c.requires c.loop-at-test.true (passed_line P a.names.now a.text.now k c.line_fault-answer.ensures c.if-answer-ne0.false) (line_is_good P a.names.now a.text.now k c.line_fault-answer.ensures c.if-answer-ne0.false) (job_told P a.names.now a.text.now k c.line_fault-answer.ensures c.if-answer-ne0.false) c.value_at.ensures c.next_line-at.ensures
 
 pub returns : goal.returns
-returns c = let a = c.args in ends_over (problem a.l a.q) a.names.now a.text.now _ _ _ c.loop-at.invariant (omega arith) c.done-answer.ensures
+returns c = let a = c.args in ends_over (problem a.l a.q) a.names.now a.text.now _ _ _ c.loop-at.invariant (omega arith)

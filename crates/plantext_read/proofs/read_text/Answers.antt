@@ -10,14 +10,14 @@ names_fault-bad-requires c = let a = c.args in (clear a.l a.q a.names.now a.text
 pub returns-then-bad-ne0 : goal.returns-then-bad-ne0
 returns-then-bad-ne0 c = let a = c.args in names_refused a.l a.q a.names.now a.text.now a.out.now c.too_short-short.ensures c.call_fault-fault.ensures c.if-fault-ne0.false c.names_fault-bad.ensures c.if-bad-ne0.true
 
-pub read_lines-read-requires : goal.read_lines-read-requires
-read_lines-read-requires c = let a = c.args in (clear a.l a.q a.names.now a.text.now a.out.now c.too_short-short.ensures c.call_fault-fault.ensures c.if-fault-ne0.false).few
+pub read_lines-requires : goal.read_lines-requires
+read_lines-requires c = let a = c.args in (clear a.l a.q a.names.now a.text.now a.out.now c.too_short-short.ensures c.call_fault-fault.ensures c.if-fault-ne0.false).few
 
-pub returns-then-answer-ne0 : goal.returns-then-answer-ne0
-returns-then-answer-ne0 c = let a = c.args in line_refused a.l a.q a.names.now a.text.now a.out.now c.too_short-short.ensures c.call_fault-fault.ensures c.if-fault-ne0.false c.names_fault-bad.ensures c.if-bad-ne0.false c.read_lines-read.result c.read_lines-read.ensures c.if-answer-ne0.true
+pub returns-in-Err : goal.returns-in-Err
+returns-in-Err c = let a = c.args in line_refused a.l a.q a.names.now a.text.now a.out.now c.too_short-short.ensures c.call_fault-fault.ensures c.if-fault-ne0.false c.names_fault-bad.ensures c.if-bad-ne0.false c.in-Err.answer c.in-Err.ensures
 
 pub fill-requires : goal.fill-requires
 fill-requires c = let a = c.args in ((clear a.l a.q a.names.now a.text.now a.out.now c.too_short-short.ensures c.call_fault-fault.ensures c.if-fault-ne0.false).few, room a.l a.q a.names.now a.text.now a.out.now c.too_short-short.ensures c.call_fault-fault.ensures c.if-fault-ne0.false)
 
-pub returns : goal.returns
-returns c = let a = c.args in read_all a.l a.q a.names.now a.text.now a.out.now c.too_short-short.ensures c.call_fault-fault.ensures c.if-fault-ne0.false c.names_fault-bad.ensures c.if-bad-ne0.false c.read_lines-read.result c.read_lines-read.ensures c.if-answer-ne0.false c.fill.ensures
+pub returns-in-Ok : goal.returns-in-Ok
+returns-in-Ok c = let a = c.args in read_all a.l a.q a.names.now a.text.now a.out.now c.too_short-short.ensures c.call_fault-fault.ensures c.if-fault-ne0.false c.names_fault-bad.ensures c.if-bad-ne0.false c.in-Ok.starts c.in-Ok.ensures c.done.ensures c.fill.ensures

@@ -1,9 +1,6 @@
-use Prim.Native.Nat.{ℕ, ◌-◌, ◌≤◌, ◌<◌}
+use Prim.Native.Nat.{ℕ, ◌≤◌, ◌<◌}
 use lib.ListN.{get_or}
 use Rattle.plantext_write.proofs.next_start.Given as goal
 
 abbrev pub invariant-loop-j : goal.invariant-loop-j
-invariant-loop-j l = (l.j ≤ l.n) × (l.best ≤ l.till) × (l.from ≤ l.best) × ((k : ℕ) → k < l.j → l.from ≤ get_or l.s k 0 → get_or l.s k 0 < l.best → ⊥)
-
-abbrev pub decreases-loop-j : goal.decreases-loop-j
-decreases-loop-j l = l.n - l.j
+invariant-loop-j l = (l.best ≤ l.till) × (l.from ≤ l.best) × ((k : ℕ) → k < l.j → l.from ≤ get_or l.s k 0 → get_or l.s k 0 < l.best → ⊥)

@@ -1,10 +1,6 @@
 use Rattle.cells.specs.View.{Prunes}
 use Rattle.lent.specs.Lent.{Lent}
-use Prim.Native.Nat.{◌-◌, ◌≤◌}
 use Rattle.prune.proofs.consumers.Given as goal
 
 abbrev pub invariant-loop-b : goal.invariant-loop-b
-invariant-loop-b l = (l.b ≤ 25) × Prunes (Lent l.t) l.initial.s l.s
-
-abbrev pub decreases-loop-b : goal.decreases-loop-b
-decreases-loop-b l = 25 - l.b
+invariant-loop-b l = Prunes (Lent l.t) l.initial.s l.s

@@ -3,8 +3,5 @@ use Rattle.prune.specs.Prune.{Begun}
 use Rattle.cells.specs.View.{Prunes}
 use Rattle.prune.proofs.follow_all.Given as goal
 
-abbrev pub invariant-loop-w : goal.invariant-loop-w
-invariant-loop-w l = Over 32 l.kills l.w × Prunes (Begun l.initial.s l.b l.kills) l.initial.s l.s
-
-abbrev pub decreases-loop-w : goal.decreases-loop-w
-decreases-loop-w l = l.w
+abbrev pub invariant-loop-d : goal.invariant-loop-d
+invariant-loop-d l = Over 64 l.kills l.d-iterator.left × Prunes (Begun l.initial.s l.b l.kills) l.initial.s l.s

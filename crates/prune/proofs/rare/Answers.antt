@@ -1,8 +1,5 @@
 use Rattle.cells.proofs.Changes.{then}
 use Rattle.prune.proofs.rare.Goals as goal
 
-pub returns-then-crowded : goal.returns-then-crowded
-returns-then-crowded c = c.crowded.ensures
-
 pub returns : goal.returns
 returns c = then c.crowded.ensures c.distinct.ensures

@@ -1,9 +1,6 @@
 use Rattle.cells.proofs.Changes.{then, under}
 use Rattle.prune.proofs.round.Goals as goal
 
-pub returns-then-broken : goal.returns-then-broken
-returns-then-broken c = c.pairs.ensures
-
 pub returns-then-broken-2 : goal.returns-then-broken-2
 returns-then-broken-2 c =
     then c.pairs.ensures (then c.all_led.ensures (under (λ P wf e. tt) c.chains.ensures))

@@ -1,16 +1,10 @@
-use mathlib.Core.Path.{◌≡◌, sym, ◌∙◌}
-use lib.ListN.{length-map}
-use native.Mathlib.Omega.{arith}
-use Rattle.tables.specs.contracts.Action.{the_field as action}
-use Rattle.reach.proofs.Words.{edone_none, edone_more}
+use Rattle.std.proofs.Common.{rules}
+use Rattle.tables.specs.Tables.{no_job}
+use Rattle.facts.proofs.Arrays.{made}
+use Rattle.reach.proofs.Words.{Turned, edone_all}
 use Rattle.reach.proofs.e_table.Goals as goal
 
--- a table by value holds 24 jobs
-pub loop-i-init : goal.loop-i-init
-loop-i-init c = (omega arith, edone_none _ _ (c.well_formed.0.1.1.0.1.0.1))
-
-pub loop-i-preserved : goal.loop-i-preserved
-loop-i-preserved c = (omega arith, edone_more _ _ _ _ _ _ (omega arith) c.loop-i.invariant.1 c.e_job.ensures c.with_job-t.ensures)
-
 pub returns : goal.returns
-returns c = (let e : c.loop-i.i ≡ c.args.jobs = omega arith in rw e at c.loop-i.invariant.1)
+returns c =
+    let a = c.args in
+    edone_all a.s.rows a.l a.jobs c.requires _ (search rules) c.from_fn.ensures.items.long (λ i. made _ _ _ 24 (Turned a.s.rows a.l a.jobs) (λ i y q l k. (search rules, search rules)) c.from_fn.ensures.items i no_job)

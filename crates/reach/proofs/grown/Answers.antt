@@ -1,13 +1,11 @@
-use native.Mathlib.Omega.{arith}
-use borrow.Author.Rules.{rules}
-use Rattle.reach.proofs.Laws.{grown_none, grown_more}
+use Rattle.std.proofs.Common.{rules, get_or}
+use Rattle.facts.specs.Words.{Word}
+use Rattle.reach.specs.Rows.{grown_row}
+use Rattle.facts.proofs.Arrays.{made}
+use Rattle.reach.proofs.Laws.{grown_all}
 use Rattle.reach.proofs.grown.Goals as goal
 
-pub loop-p-init : goal.loop-p-init
-loop-p-init c = (omega arith, grown_none _ _ _ (search rules))
-
-pub loop-p-preserved : goal.loop-p-preserved
-loop-p-preserved c = (omega arith, grown_more _ _ _ _ _ _ _ (omega arith) c.loop-p.invariant.1 c.grown_row.ensures c.with_row-t.ensures)
-
 pub returns : goal.returns
-returns c = let g = c.loop-p.invariant.1 in record { size = g.size; grown = λ p l. g.grown p (omega arith); rest = λ p l. g.rest p (omega arith) }
+returns c =
+    let a = c.args in
+    grown_all _ _ _ _ (search rules) (search rules) (λ p. made _ _ _ 64 (λ p y. Word (grown_row (get_or a.s.rows p 0) a.a a.w p) y) (λ i y q l k. (λ p. search rules, search rules)) c.from_fn.ensures.items p 0)

@@ -1,15 +1,11 @@
-use mathlib.Core.Path.{◌∙◌}
-use lib.Dec.{eqb, eqb→eq}
-use Rattle.facts.proofs.Bools.{and_l, same}
+use mathlib.Core.Path.{refl, ◌∙◌}
+use borrow.Author.Tests.{ne_eqb}
+use Rattle.facts.proofs.Bools.{and_first}
 use Rattle.reasons.proofs.Laws.{sum_test}
 use Rattle.reasons.proofs.fits.Goals as goal
 
 pub returns-then-b-j : goal.returns-then-b-j
-returns-then-b-j c =
-    let a = c.args in
-    same _ _ (λ x. absurd x) (λ x. absurd (c.if-b-j.true (eqb→eq a.b a.j (and_l (eqb a.b a.j) _ x))))
+returns-then-b-j c = let a = c.args in c.follows.ensures ∙ sum_test a.b a.j c.if-b-j.true refl refl refl c.gap.ensures
 
-pub returns : goal.returns
-returns c =
-    let a = c.args in
-    sum_test a.b a.j c.if-b-j.false c.wide-3.ensures.0 c.wide.ensures.0 c.wide-2.ensures.0 (c.wide-4.ensures.0 ∙ c.gap.ensures)
+pub returns-else-b-j : goal.returns-else-b-j
+returns-else-b-j c = and_first _ refl (ne_eqb _ _ c.if-b-j.false)

@@ -13,36 +13,24 @@ use Rattle.reasons.proofs.fitting.Goals as goal
 pub loop-k-init : goal.loop-k-init
 loop-k-init c =
     let a = c.args in
-    (omega arith, pair_none (pair_first a.pairs.now) (pair_second a.pairs.now) (λ i. eqb (entry a.z a.j) (finish (problem a.l a.q) (entry a.z) i + (problem a.l a.q).gap)) a.j)
-
-pub overflow_mul-at : goal.overflow_mul-at
-overflow_mul-at c = omega (arith, c.requires.0.lent)
-
-pub bounds-pairs-at : goal.bounds-pairs-at
-bounds-pairs-at c = omega (arith, c.requires.0.lent)
-
-pub overflow_add-at : goal.overflow_add-at
-overflow_add-at c = omega (arith, c.requires.0.lent)
-
-pub bounds-pairs-at-in-loop-k : goal.bounds-pairs-at-in-loop-k
-bounds-pairs-at-in-loop-k c = omega (arith, c.requires.0.lent)
+    (pair_none (pair_first a.pairs.now) (pair_second a.pairs.now) (λ i. eqb (entry a.z a.j) (finish (problem a.l a.q) (entry a.z) i + (problem a.l a.q).gap)) a.j)
 
 pub fits-requires : goal.fits-requires
 fits-requires c =
     let a = c.args in
-    (omega (arith, c.job-a.ensures, first_job_lem a.l a.q a.pairs.now c.requires.0 c.loop-k.k c.loop-k-test.true, c.requires.0.few), c.requires.1)
+    (omega (arith, c.from-a.ensures, first_job_lem a.l a.q a.pairs.now c.requires.0 c.loop-k.k c.loop-k-test.true, c.requires.0.few), c.requires.1)
 
 pub with_if-w-requires : goal.with_if-w-requires
 with_if-w-requires c =
     let a = c.args in
-    omega (arith, c.job-a.ensures, first_job_lem a.l a.q a.pairs.now c.requires.0 c.loop-k.k c.loop-k-test.true, c.requires.0.few)
+    omega (arith, c.from-a.ensures, first_job_lem a.l a.q a.pairs.now c.requires.0 c.loop-k.k c.loop-k-test.true, c.requires.0.few)
 
 pub loop-k-preserved : goal.loop-k-preserved
 loop-k-preserved c =
     let a = c.args in
-    (omega arith, pair_by (pair_first a.pairs.now) (pair_second a.pairs.now) (λ i. eqb (entry a.z a.j) (finish (problem a.l a.q) (entry a.z) i + (problem a.l a.q).gap)) a.j c.loop-k.k c.loop-k.w _ c.loop-k.invariant.1 c.job-a.ensures c.job-b.ensures c.fits.ensures c.with_if-w.ensures)
+    (pair_by (pair_first a.pairs.now) (pair_second a.pairs.now) (λ i. eqb (entry a.z a.j) (finish (problem a.l a.q) (entry a.z) i + (problem a.l a.q).gap)) a.j c.loop-k.k c.loop-k.w _ c.loop-k.invariant c.from-a.ensures c.from-b.ensures c.fits.ensures c.with_if-w.ensures)
 
 pub returns : goal.returns
 returns c =
     let e : c.loop-k.k ≡ c.args.q.pairs = omega arith in
-    rw e at c.loop-k.invariant.1
+    rw e at c.loop-k.invariant

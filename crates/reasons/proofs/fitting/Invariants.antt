@@ -1,5 +1,5 @@
 use mathlib.Core.Bool.{◌&&◌}
-use Prim.Native.Nat.{◌+◌, ◌-◌, ◌≤◌}
+use Prim.Native.Nat.{◌+◌}
 use lib.Dec.{eqb}
 use Rattle.facts.specs.Least.{any}
 use Rattle.facts.specs.Words.{Word}
@@ -10,7 +10,4 @@ use Rattle.times.specs.Times.{pair_first, pair_second}
 use Rattle.reasons.proofs.fitting.Given as goal
 
 abbrev pub invariant-loop-k : goal.invariant-loop-k
-invariant-loop-k l = (l.k ≤ l.n) × Word (λ a. any (λ i. eqb (pair_first l.pairs i) a && eqb (pair_second l.pairs i) l.j) l.k && eqb (entry l.z l.j) (finish (problem l.l l.q) (entry l.z) a + (problem l.l l.q).gap)) l.w
-
-abbrev pub decreases-loop-k : goal.decreases-loop-k
-decreases-loop-k l = l.n - l.k
+invariant-loop-k l = Word (λ a. any (λ i. eqb (pair_first l.pairs i) a && eqb (pair_second l.pairs i) l.j) l.k && eqb (entry l.z l.j) (finish (problem l.l l.q) (entry l.z) a + (problem l.l l.q).gap)) l.w

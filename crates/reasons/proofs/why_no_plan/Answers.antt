@@ -15,4 +15,4 @@ pub hindrance-requires : goal.hindrance-requires
 hindrance-requires c = (c.call_fault-fault.ensures.order c.if-fault-ne0.false).few
 
 pub returns : goal.returns
-returns c = let a = c.args in checked a.l a.q c.call_fault-fault.ensures c.if-fault-ne0.false (entry c.estimate_all-est.result) c.estimate_all-est.ensures (c.reason_of.ensures ∙ ap (λ (h : Hindrance). reason_of h) c.hindrance.ensures)
+returns c = let a = c.args in checked a.l a.q c.call_fault-fault.ensures c.if-fault-ne0.false (entry c.estimate_all-est.result) c.estimate_all-est.ensures (c.into.ensures ∙ ap (λ (h : Hindrance). reason_of h) c.hindrance.ensures)

@@ -1,7 +1,7 @@
 use native.Mathlib.Omega.{arith}
 use Rattle.states.proofs.Count.{undecided_le}
 use Rattle.leaves.proofs.Laws.{refused}
-use Rattle.search.proofs.Laws.{chosen, ans_pruned, ans_first, ans_second}
+use Rattle.search.proofs.Laws.{ans_pruned, ans_first, ans_second}
 use Rattle.search.proofs.+attempt_pick.Goals as goal
 
 pub attempt-pick-requires : goal.attempt-pick-requires
@@ -9,7 +9,7 @@ attempt-pick-requires t c =
     (omega (arith, c.taken.ensures.fewer, undecided_le c.pruned-alive.ensures.prunes.more, c.decreases), (c.pruned-alive.ensures.rest, c.requires.1))
 
 pub attempt-returns-then-pick : goal.attempt-returns-then-pick
-attempt-returns-then-pick t c = ans_first c.args.c c.taken.ensures (ans_pruned c.pruned-alive.ensures.prunes c.pick.ensures) c.if-pick.true
+attempt-returns-then-pick t c = ans_first c.args.r c.taken.ensures (ans_pruned c.pruned-alive.ensures.prunes c.pick.ensures) c.if-pick.true
 
 pub attempt-pick-requires-2 : goal.attempt-pick-requires-2
 attempt-pick-requires-2 t c =
@@ -17,12 +17,7 @@ attempt-pick-requires-2 t c =
 
 pub attempt-returns : goal.attempt-returns
 attempt-returns t c =
-    ans_second c.args.c c.taken.ensures (ans_pruned c.pruned-alive.ensures.prunes c.pick.ensures) c.if-pick.false c.dropped.ensures (ans_pruned c.pruned-left.ensures.prunes c.pick-2.ensures)
+    ans_second c.args.r c.taken.ensures (ans_pruned c.pruned-alive.ensures.prunes c.pick.ensures) c.if-pick.false c.dropped.ensures (ans_pruned c.pruned-left.ensures.prunes c.pick-2.ensures)
 
-pub pick-returns-then-c-eq-DEAD : goal.pick-returns-then-c-eq-DEAD
-pick-returns-then-c-eq-DEAD t c = refused (λ P l. (c.flaw-c.ensures P l).dead c.if-c-eq-DEAD.true)
-
-pub pick-attempt-requires : goal.pick-attempt-requires
-pick-attempt-requires t c =
-    let some = c.requires.1 in
-    (omega (arith, c.decreases), (chosen (c.flaw-c.ensures some.0 some.1) c.if-c-eq-FINE.false c.if-c-eq-DEAD.false, some))
+pub pick-returns-in-Lost : goal.pick-returns-in-Lost
+pick-returns-in-Lost t c = refused (λ P l. (c.flaw.ensures P l).lost c.in-Lost.is)

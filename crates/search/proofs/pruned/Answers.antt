@@ -1,8 +1,5 @@
-use Rattle.search.proofs.Laws.{settled_dead, settled_on}
+use Rattle.search.proofs.Laws.{settled_on}
 use Rattle.search.proofs.pruned.Goals as goal
 
-pub returns-then-broken : goal.returns-then-broken
-returns-then-broken c = settled_dead c.tighten.ensures (c.broken.ensures c.if-broken.true)
-
-pub returns : goal.returns
-returns c = settled_on c.tighten.ensures c.settle.ensures
+pub returns-then-not-broken : goal.returns-then-not-broken
+returns-then-not-broken c = settled_on c.tighten.ensures c.settle.ensures

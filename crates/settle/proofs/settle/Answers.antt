@@ -1,19 +1,15 @@
 use lib.ListN.{length}
-use Rattle.settle.proofs.Starts.{with_starts, not_filled, all_filled}
+use Rattle.settle.proofs.Starts.{ready, not_filled, all_filled}
 use Rattle.settle.proofs.settle.Goals as goal
-
-pub returns-then-answer-ne0 : goal.returns-then-answer-ne0
-returns-then-answer-ne0 c =
-    let a = c.args in
-    not_filled a.l a.q a.pairs.now a.out.now _ c.settled-r.ensures c.if-answer-ne0.true
 
 pub fill-requires : goal.fill-requires
 fill-requires c =
     let a = c.args in
-    let w = (with_starts a.l a.q a.pairs.now (length a.out.now) _ c.settled-r.ensures c.if-answer-ne0.false).ready in
-    (w.ready.few, w.wide)
+    let k = ready a.l a.q a.pairs.now (length a.out.now) c.in-Ok.starts c.in-Ok.ensures in
+    (k.ready.few, k.wide)
 
-pub returns : goal.returns
-returns c =
-    let a = c.args in
-    all_filled a.l a.q a.pairs.now a.out.now _ c.settled-r.ensures c.if-answer-ne0.false c.fill.ensures
+pub returns-in-Ok : goal.returns-in-Ok
+returns-in-Ok c = let a = c.args in all_filled a.l a.q a.pairs.now a.out.now c.in-Ok.starts c.in-Ok.ensures c.done.ensures c.fill.ensures
+
+pub returns-in-Err : goal.returns-in-Err
+returns-in-Err c = let a = c.args in not_filled a.l a.q a.pairs.now a.out.now c.in-Err.answer c.in-Err.ensures

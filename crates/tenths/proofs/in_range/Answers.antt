@@ -18,4 +18,4 @@ returns-then-x c = tested c.before c.if-x.true
 
 pub returns-else-x : goal.returns-else-x
 unfolding of_bits neg
-returns-else-x c = tested c.before c.if-x.false
+returns-else-x c = c.if-x.false ∙ tested c.before c.if-x.false

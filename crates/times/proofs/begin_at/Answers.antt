@@ -4,5 +4,5 @@ use Rattle.times.proofs.begin_at.Goals as goal
 pub returns-then-has : goal.returns-then-has
 returns-then-has c = cond_taken _ c.has.ensures c.if-has.true
 
-pub returns : goal.returns
-returns c = cond_left _ c.has.ensures c.if-has.false
+pub returns-else-has : goal.returns-else-has
+returns-else-has c = cond_left _ c.has.ensures c.if-has.false

@@ -1,23 +1,33 @@
+use mathlib.Core.Path.{sym, ◌∙◌}
+use mathlib.Core.Bool.{true≢false}
 use borrow.Author.Rules.{rules}
-use borrow.Author.Tests.{not-true, not-false}
+use lib.Pointwise.{bytes_decides}
 use Rattle.entries.specs.Entries.{entry}
-use Rattle.times.proofs.Laws.{pushed_none, round_none, round_last, round_less, round_more}
+use Rattle.times.proofs.Laws.{pushed_none, pushed_on, round_none, round_last, round_less}
 use Rattle.times.proofs.rounds.Goals as goal
 
-pub loop-l-init : goal.loop-l-init
-loop-l-init c = (search rules, pushed_none c.args.l c.args.q c.args.pairs.now (entry c.args.t))
+pub loop-next-init : goal.loop-next-init
+loop-next-init c = (search rules, pushed_none c.args.l c.args.q c.args.pairs.now (entry c.args.t))
 
-pub returns-then-not-ok : goal.returns-then-not-ok
-returns-then-not-ok c = round_none c.args.l c.args.q c.args.pairs.now c.requires c.args.t c.loop-l.s c.loop-l.invariant.1 c.round-r.result c.round-r.ensures (not-true _ c.if-not-ok.true-raw)
+pub returns-in_err-next : goal.returns-in_err-next
+returns-in_err-next c =
+    let a = c.args in
+    rw c.from_residual.ensures (round_none a.l a.q a.pairs.now c.requires a.t c.loop-next.s c.loop-next.invariant.1 c.in_err-next.ensures)
 
-pub same-requires : goal.same-requires
-same-requires c = c.requires.few
+pub returns-then-eq : goal.returns-then-eq
+returns-then-eq c =
+    let a = c.args in
+    let s = c.loop-next.s in
+    (c.loop-next.invariant.1, round_last a.l a.q a.pairs.now c.requires s c.in_ok-next.ensures.1 ((bytes_decides s c.in_ok-next.next).0 (sym c.if-eq.ensures)))
 
-pub returns-then-same : goal.returns-then-same
-returns-then-same c = round_last c.args.l c.args.q c.args.pairs.now c.requires c.args.t c.loop-l.s c.loop-l.invariant.1 c.round-r.result c.round-r.ensures (not-false _ c.if-not-ok.false-raw) (c.same.ensures.yea c.if-same.true)
+pub loop-next-smaller : goal.loop-next-smaller
+loop-next-smaller c =
+    let a = c.args in
+    let s = c.loop-next.s in
+    round_less a.l a.q a.pairs.now c.requires s c.in_ok-next.next c.in_ok-next.ensures.0 (c.loop-next.invariant.0 ∙ sym (search rules))
+    (λ e. true≢false (sym ((bytes_decides s c.in_ok-next.next).1 e) ∙ sym c.if-eq.ensures))
 
-pub loop-l-smaller : goal.loop-l-smaller
-loop-l-smaller c = round_less c.args.l c.args.q c.args.pairs.now c.requires c.loop-l.s c.round-r.result.starts (c.round-r.ensures.pushed (not-false _ c.if-not-ok.false-raw)) (c.same.ensures.nay c.if-same.false)
-
-pub loop-l-preserved : goal.loop-l-preserved
-loop-l-preserved c = (search rules, round_more c.args.l c.args.q c.args.pairs.now c.requires c.args.t c.loop-l.s c.loop-l.invariant.1 c.round-r.result c.round-r.ensures (not-false _ c.if-not-ok.false-raw))
+pub loop-next-preserved : goal.loop-next-preserved
+loop-next-preserved c =
+    let a = c.args in
+    (search rules, pushed_on a.l a.q a.pairs.now (entry a.t) (entry c.loop-next.s) (entry c.in_ok-next.next) c.loop-next.invariant.1 c.in_ok-next.ensures.0)

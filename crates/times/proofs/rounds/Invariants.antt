@@ -6,8 +6,8 @@ use Rattle.entries.specs.Entries.{entry}
 use Rattle.times.specs.Steps.{Pushed}
 use Rattle.times.proofs.rounds.Given as goal
 
-abbrev pub invariant-loop-l : goal.invariant-loop-l
-invariant-loop-l l = (length l.s ≡ 24) × Pushed l.l l.q l.pairs (entry l.initial.s) (entry l.s)
+abbrev pub invariant-loop-next : goal.invariant-loop-next
+invariant-loop-next l = (length l.s ≡ 24) × Pushed l.l l.q l.pairs (entry l.initial.s) (entry l.s)
 
-abbrev pub decreases-loop-l : goal.decreases-loop-l
-decreases-loop-l l = sum (λ j. l.q.bound - entry l.s j) l.q.jobs
+abbrev pub decreases-loop-next : goal.decreases-loop-next
+decreases-loop-next l = sum (λ j. l.q.bound - entry l.s j) l.q.jobs

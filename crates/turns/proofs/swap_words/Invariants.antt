@@ -1,7 +1,5 @@
+use Prim.Native.Nat.{◌<◌, ◌^◌}
 use Rattle.turns.proofs.swap_words.Given as goal
 
-abbrev pub invariant-loop-a : goal.invariant-loop-a
-invariant-loop-a l = Unit {0}
-
-abbrev pub decreases-loop-a : goal.decreases-loop-a
-decreases-loop-a l = l.a
+abbrev pub invariant-loop-x : goal.invariant-loop-x
+invariant-loop-x l = (l.theirs.left < 2 ^ 64) × (l.x-iterator.left < 2 ^ 64)

@@ -14,4 +14,4 @@ returns-then-s-i c = simp (eq-eqb _ _ c.if-s-i.true)
 pub returns : goal.returns
 returns c =
     let a = c.args in
-    unready_of a.l a.q a.s.now a.i _ _ c.if-s-i.false (c.earlier.ensures ∙ ap (λ (g : ℕ). get_or a.s.now a.i 0 - g) c.gap.ensures) c.facts_at-state.ensures c.first_lacking.ensures
+    c.is_some.ensures ∙ unready_of a.l a.q a.s.now a.i _ _ c.if-s-i.false (c.earlier.ensures ∙ ap (λ (g : ℕ). get_or a.s.now a.i 0 - g) c.gap.ensures) c.facts_at-state.ensures c.first_lacking.ensures

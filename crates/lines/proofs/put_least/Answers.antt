@@ -1,6 +1,0 @@
-use Rattle.lines.proofs.Laws.{lays_then}
-use borrow.Author.Rules.{rules}
-use Rattle.lines.proofs.put_least.Goals as goal
-
-pub returns : goal.returns
-returns c = lays_then (search rules) c.put_word-word.ensures c.put_then.ensures

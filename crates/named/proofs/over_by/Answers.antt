@@ -1,8 +1,0 @@
-use borrow.Author.Tests.{eq-eqb, ne_eqb}
-use Rattle.named.proofs.over_by.Goals as goal
-
-pub returns-then-start-ne65535 : goal.returns-then-start-ne65535
-returns-then-start-ne65535 c = simp (ne_eqb _ _ c.if-start-ne65535.true)
-
-pub returns-else-start-ne65535 : goal.returns-else-start-ne65535
-returns-else-start-ne65535 c = simp (eq-eqb _ _ c.if-start-ne65535.false)
