@@ -1,2 +1,3 @@
 mod Laws
 pub mod Only
+pub mod Forwards
