@@ -1,14 +1,15 @@
 -- Copied forwards, a byte is read before it is written over.
 -- Assumes nothing.
-use mathlib.Core.Path.{◌≡◌, sym, ap, ◌∙◌}
+use mathlib.Core.Path.{◌≡◌, refl, sym, ap, ◌∙◌}
 use mathlib.Core.List.{List}
-use Prim.Native.Nat.{ℕ, ◌+◌, ◌<◌}
+use Prim.Native.Nat.{ℕ, zero, suc, ◌+◌, ◌-◌, ◌≤◌, ◌<◌}
 use native.Mathlib.Numerals.{add-one}
 use native.Mathlib.Omega.{arith}
 use lib.ListN.{length, get_or, take, drop, set, length-drop}
-use lib.Seq.{length-take-le, take-suc, get_or-drop}
+use lib.Seq.{length-take-le, take-suc, take_at, get_or-drop}
 use Rattle.bytes_le.specs.Little.{at_front}
 use Rattle.bytes_le.proofs.Laid.{over_one, over_rest}
+use Rattle.jobfile_tidy.specs.Copies.{forwards}
 
 -- one byte more is copied; it stands where it stood, since fewer are written than lie before it
 pub front_more : (from i : ℕ) (xs : List ℕ) {ys : List ℕ} → from + i < length xs → ys ≡ at_front (take i (drop from xs)) xs
@@ -24,3 +25,21 @@ front_more from i xs {ys} l e =
 
     long : length w ≡ i
     long = length-take-le i (drop from xs) (omega (arith, length-drop from xs))
+
+-- all n bytes are copied as they stood
+pub forwards_is : (from n : ℕ) (xs : List ℕ) → from + n ≤ length xs → forwards from n xs ≡ at_front (take n (drop from xs)) xs
+unfolding forwards
+forwards_is from zero xs l = refl
+forwards_is from (suc i) xs l =
+    front_more from i xs (omega arith) (forwards_is from i xs (omega arith)) ∙ ap (λ (k : ℕ). at_front (take k (drop from xs)) xs) (add-one i)
+
+-- the last n of the bytes in use are what copying them forwards leaves at the front
+pub front_forwards : (n used : ℕ) (xs : List ℕ) → n ≤ used → used ≤ length xs → take n (drop (used - n) xs) ≡ take n (forwards (used - n) n xs)
+front_forwards n used xs l m =
+    sym (ap (take n) (forwards_is (used - n) n xs (omega arith)) ∙ take_at w _ n long)
+  where
+    w : List ℕ
+    w = take n (drop (used - n) xs)
+
+    long : length w ≡ n
+    long = length-take-le n (drop (used - n) xs) (omega (arith, length-drop (used - n) xs))

@@ -2,16 +2,18 @@
 
 #![tactic(auto)]
 
-ghost use Rattle.std.specs.Prelude.{◌≡◌, ◌≤◌, length};
+ghost use Rattle.std.specs.Prelude.{◌≡◌, ◌-◌, ◌≤◌, length, take};
 ghost use Rattle.jobfile.specs.Format.{trailer_at, trailer_in, distance_in, save_length};
 ghost use Rattle.jobfile.specs.Tidy.{pulled, Tidies};
+ghost use Rattle.jobfile_tidy.specs.Copies.{forwards};
 
 use tables::Answer;
 
-// The last n of the bytes in use to the front, and zeros behind them.
+// The last n of the bytes in use to the front, as copying them forwards leaves them, and zeros behind them.
 fn pull(n: usize, used: usize, buf: &mut [u8])
     requires { (n ≤ used) × (used ≤ length buf.old) }
-    ensures { buf.new ≡ pulled n used buf.old }
+    ensures bytes { buf.new ≡ pulled n used buf.old }
+    ensures copied { take n buf.new ≡ take n (forwards (used - n) n buf.old) }
 {
     buf.copy_within(used - n..used, 0);
     buf[n..used].fill(0);

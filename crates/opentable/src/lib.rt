@@ -169,9 +169,9 @@ fn rows_moved(rows: [u32; 24], k: usize) -> [u32; 24]
 }
 
 // What comes to place i when job k goes.
-fn job_moved(l: Loaded, k: usize, i: usize) -> Action
+fn job_moved(l: &Loaded, k: usize, i: usize) -> Action
     requires { i < 24 }
-    ensures { result ≡ record_at l.jobs (moved_from k i) }
+    ensures { result ≡ record_at l.now.jobs (moved_from k i) }
 {
     match l.jobs.get(moved_from(k, i)) {
         Some(&job) => job,
@@ -183,7 +183,7 @@ fn job_moved(l: Loaded, k: usize, i: usize) -> Action
 fn jobs_moved(l: Loaded, k: usize) -> Loaded
     ensures { result ≡ moved_jobs l k }
 {
-    let jobs = array::from_fn(|i| job_moved(l, k, i));
+    let jobs = array::from_fn(|i| job_moved(&l, k, i));
     Loaded { jobs, ..l }
 }
 

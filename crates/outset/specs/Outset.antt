@@ -1,6 +1,6 @@
 -- What the contracts of the lists that the search reads, and of its first state, cite.
 -- Assumes nothing.
-use Rattle.std.specs.Prelude.{◌≡◌, ◌↔◌, false, List, ℕ, ◌+◌, ◌*◌, ◌-◌, ◌%◌, ◌≤◌, ◌<◌, ◌^◌, T, get_or, Option, MatchOption}
+use Rattle.std.specs.Prelude.{◌≡◌, ◌↔◌, List, ℕ, ◌+◌, ◌*◌, ◌-◌, ◌%◌, ◌≤◌, ◌<◌, ◌^◌, T, get_or, Result, MatchResult}
 use Rattle.facts.specs.Facts.{has}
 use Rattle.rules.specs.Table.{Problem}
 use Rattle.rules.specs.Premises.{InOrder}
@@ -96,6 +96,6 @@ pub record SearchedFor (l : Loaded) (q : Ask) (tables : List ℕ) : Type 0 where
   pub listed : Listed tables searched
   pub same : (bound : ℕ) (s : Plan) → Valid (problem l q) bound s ↔ Valid searched bound s
 
--- that, or nothing where no plan is valid
-abbrev pub SetsOut : Loaded → Ask → Option (List ℕ) → Type 0
-SetsOut l q found = MatchOption found ((bound : ℕ) → NoPlan (problem l q) bound) (SearchedFor l q)
+-- that, and where it is refused no plan is valid
+abbrev pub SetsOut : Loaded → Ask → Result (List ℕ) (List ℕ) → Type 0
+SetsOut l q r = MatchResult r (SearchedFor l q) (λ tables. SearchedFor l q tables × ((bound : ℕ) → NoPlan (problem l q) bound))

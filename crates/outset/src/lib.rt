@@ -163,19 +163,19 @@ fn all_wait(s: PairRows, l: Loaded, est: [u16; 24]) -> [u16; 24]
     array::from_fn(|j| waits(s, l.jobs[j].conditions, est[j]))
 }
 
-// What is searched for the table: it has the same plans. None where the goals are not pairwise reachable: there is no plan.
-pub fn set_out(l: Loaded, q: Ask) -> Option<Tables>
+// What is searched for the table: it has the same plans. Refused where the goals are not pairwise reachable: there is no plan.
+pub fn set_out(l: Loaded, q: Ask) -> Result<Tables, Tables>
     requires { (q.jobs ≤ 24) × InOrder (problem l q) × Released l q }
     ensures { SetsOut l q result }
 {
     let s = reach::reachable(l, q);
-    if !reach::fits(s, q.goals) {
-        return None;
-    }
     let table = reach::e_table(l, q.jobs, s);
     let est = all_wait(s, table, estimates::estimate_all(table, q));
     let mut tables = listed(table, q, est);
     put_waits(&mut tables, table, q);
     put_leads(&mut tables, l, q);
-    Some(tables)
+    if !reach::fits(s, q.goals) {
+        return Err(tables);
+    }
+    Ok(tables)
 }

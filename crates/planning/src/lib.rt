@@ -86,7 +86,7 @@ fn first_within(l: Loaded, q: Ask, top: u16, out: &mut [u16; 24]) -> bool
     requires { InReach l q top }
     ensures { PlanAt (problem l q) top out.new result }
 {
-    let Some(mut t) = outset::set_out(l, q) else {
+    let Ok(mut t) = outset::set_out(l, q) else {
         return false;
     };
     if !bounds::any_at(&mut t, top, out) {
@@ -101,7 +101,7 @@ fn least_within(l: Loaded, q: Ask, top: u16, out: &mut [u16; 24]) -> Option<u16>
     requires { InReach l q top }
     ensures { LeastOf (problem l q) top out.new result }
 {
-    let Some(mut t) = outset::set_out(l, q) else {
+    let Ok(mut t) = outset::set_out(l, q) else {
         return None;
     };
     least_of(&mut t, top, out)

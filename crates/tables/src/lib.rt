@@ -170,10 +170,10 @@ fn edges_stray(q: Ask) -> bool
 }
 
 // The lowest of the first n jobs that passes the test.
-fn first_job<F: Fn(Action) -> bool>(l: Loaded, n: usize, test: F) -> Option<usize>
+fn first_job<F: Fn(Action) -> bool>(l: &Loaded, n: usize, test: F) -> Option<usize>
     requires few { n ≤ 24 }
     requires callable { (a : Action) → F.pre test a }
-    ensures { (f : ℕ → Bool) → ((i : ℕ) → i < n → Agrees f i (F.post test (job_at l i))) → result ≡ some_least f n }
+    ensures { (f : ℕ → Bool) → ((i : ℕ) → i < n → Agrees f i (F.post test (job_at l.now i))) → result ≡ some_least f n }
 {
     facts::first(n, |i| test(l.jobs[i]))
 }
@@ -206,19 +206,19 @@ fn jobs_fault(l: Loaded, q: Ask, bound: u16) -> Answer
 {
     let n = q.jobs;
     let atoms = usize::from(atoms(q));
-    if let Some(long) = first_job(l, n, |a| outside(a.duration, 960)) {
+    if let Some(long) = first_job(&l, n, |a| outside(a.duration, 960)) {
         return refuse(6, long as u16, 0);
     }
-    if let Some(held) = first_job(l, n, |a| 2880 < a.release) {
+    if let Some(held) = first_job(&l, n, |a| 2880 < a.release) {
         return refuse(20, held as u16, 0);
     }
-    if let Some(stray) = first_job(l, n, |a| job_strays(a, atoms)) {
+    if let Some(stray) = first_job(&l, n, |a| job_strays(a, atoms)) {
         return refuse(7, stray as u16, 0);
     }
     if edges_stray(q) {
         return refuse(7, 24, 0);
     }
-    if let Some(both) = first_job(l, n, |a| facts::meets(a.additions, a.deletions)) {
+    if let Some(both) = first_job(&l, n, |a| facts::meets(a.additions, a.deletions)) {
         return refuse(8, both as u16, 0);
     }
     if 2880 < bound {

@@ -1,6 +1,6 @@
 -- Rounds of pushes: no start goes beyond any starts that keep what is asked, and rounds that change nothing have settled.
 -- Assumes nothing.
-use mathlib.Core.Path.{◌≡◌, refl, sym, ◌∙◌}
+use mathlib.Core.Path.{◌≡◌, refl, ◌∙◌}
 use mathlib.Core.Logic.{◌≢◌, ⊎_elim}
 use mathlib.Core.Bool.{◌&&◌}
 use mathlib.Core.List.{List}
@@ -9,7 +9,7 @@ use native.Mathlib.Omega.{arith}
 use native.Mathlib.Decide.{dec_lt, ℕ_discrete}
 use lib.Dec.{T, eqb, eqb→eq, eqb_refl}
 use lib.ListN.{length, set}
-use lib.Seq.{get_or-set_same, get_or-set_other, ext_get_or}
+use lib.Seq.{get_or-set_same, get_or-set_other}
 use borrow.Author.Count.{below_more}
 use Rattle.facts.specs.Facts.{has}
 use Rattle.facts.proofs.Bools.{and_l, and_r, and_of}
@@ -21,7 +21,7 @@ use Rattle.rules.specs.Sums.{sum}
 use Rattle.tables.specs.declared.Loaded.{Loaded}
 use Rattle.tables.specs.declared.Ask.{Ask}
 use Rattle.tables.specs.Tables.{job_at, problem}
-use Rattle.entries.specs.Entries.{entry}
+use Rattle.entries.specs.Entries.{entry, Same}
 use Rattle.std.specs.Prelude.{Option, Some, None}
 use Rattle.times.specs.Times.{pair_first, pair_second, wanted}
 use Rattle.times.specs.Steps.{Ready, Begins, EndInTime, Under, Pushes, Pushed, Behind, NoneUnder, Rounds, Solved}
@@ -45,7 +45,7 @@ module _ (s : List ℕ) (b x : ℕ) (room : b < length s) where
       go (no n) = omega (arith, raised_else j n)
 
 -- the pair as it was read from the bytes
-pub pushes_by : (l : Loaded) (q : Ask) (s : List ℕ) (r : Option (List ℕ)) {a b a' b' : ℕ} {g : ℕ} → a ≡ a' → b ≡ b' → g ≡ (problem l q).gap → Pushes s b (finish (problem l q) (entry s) a + g) ((problem l q).duration b) q.bound r
+pub pushes_by : (l : Loaded) (q : Ask) (s : List ℕ) (r : Option ℕ) {a b a' b' : ℕ} {g : ℕ} → a ≡ a' → b ≡ b' → g ≡ (problem l q).gap → Pushes s b (finish (problem l q) (entry s) a + g) ((problem l q).duration b) q.bound r
     → Pushes s b' (finish (problem l q) (entry s) a' + (problem l q).gap) ((problem l q).duration b') q.bound r
 pushes_by l q s r e f z p = rw (e, f, z) at p
 
@@ -96,71 +96,66 @@ module _ (l : Loaded) (q : Ask) (bytes : List ℕ) where
       x = finish (problem l q) (entry s) a + (problem l q).gap
 
       -- the push of this pair
-      abbrev pub PushesPair : Option (List ℕ) → Type 0
+      abbrev pub PushesPair : Option ℕ → Type 0
       PushesPair r = Pushes s b x ((problem l q).duration b) q.bound r
 
       x_under : (y : Plan) → Obeys (problem l q) (wanted l q bytes) y → Under q t y → x ≤ y b
       x_under y w u = omega (arith, kept y w k h, f.under y w u a (first_job_lem k h) (ready.paired k h).0)
 
       pub pair_none : PushesPair None → NoneUnder l q bytes t
-      pair_none p y w u = omega (arith, p.1, x_under y w u, w.ends b (second_job k h) (ready.paired k h).1)
+      pair_none p y w u = omega (arith, p, x_under y w u, w.ends b (second_job k h) (ready.paired k h).1)
 
-      pub pair_pushed : (z : List ℕ) → PushesPair (Some z) → Pushed l q bytes t (entry z)
-      pair_pushed z p = rw p.1.0 (record {
-        later = λ j m. omega (arith, f.later j m, raised_le s b x p.0 j);
+      pub pair_pushed : b < length s → (y : ℕ) → PushesPair (Some y) → Pushed l q bytes t (entry (set s b y))
+      pair_pushed room y p = rw p.0 (record {
+        later = λ j m. omega (arith, f.later j m, raised_le s b x room j);
         ends = λ j m o. ends j m o (ℕ_discrete j b);
-        out = λ j n. raised_else s b x p.0 j (λ e. n (rw e (ready.paired k h).1)) ∙ f.out j n;
+        out = λ j n. raised_else s b x room j (λ e. n (rw e (ready.paired k h).1)) ∙ f.out j n;
         under = λ y w u j m o. under y w u j m o (ℕ_discrete j b);
       })
         where
-          there : entry (raised s b x p.0) b ≡ max (entry s b) x
-          there = raised_there s b x p.0
+          there : entry (raised s b x room) b ≡ max (entry s b) x
+          there = raised_there s b x room
 
           short : x + (problem l q).duration b ≤ q.bound
-          short = p.1.1
+          short = p.1
 
-          ends : (j : ℕ) → j < q.jobs → t j < entry (raised s b x p.0) j → Dec (j ≡ b) → finish (problem l q) (entry (raised s b x p.0)) j ≤ q.bound
-          ends j m o (no n) = let g = raised_else s b x p.0 j n in rw g (f.ends j m (rw g at o))
+          ends : (j : ℕ) → j < q.jobs → t j < entry (raised s b x room) j → Dec (j ≡ b) → finish (problem l q) (entry (raised s b x room)) j ≤ q.bound
+          ends j m o (no n) = let g = raised_else s b x room j n in rw g (f.ends j m (rw g at o))
           ends j m o (yes i) = rw i (go (dec_lt (t b) (entry s b)))
             where
-              over : t b < entry (raised s b x p.0) b
+              over : t b < entry (raised s b x room) b
               over = rw i at o
 
-              go : Dec (t b < entry s b) → finish (problem l q) (entry (raised s b x p.0)) b ≤ q.bound
+              go : Dec (t b < entry s b) → finish (problem l q) (entry (raised s b x room)) b ≤ q.bound
               go (yes n) = omega (arith, there, short, f.ends b (second_job k h) n)
               go (no n) = omega (arith, there, short, over)
 
-          under : (y : Plan) → Obeys (problem l q) (wanted l q bytes) y → Under q t y → (j : ℕ) → j < q.jobs → T (has q.set j) → Dec (j ≡ b) → entry (raised s b x p.0) j ≤ y j
-          under y w u j m o (no n) = rw (raised_else s b x p.0 j n) (f.under y w u j m o)
+          under : (y : Plan) → Obeys (problem l q) (wanted l q bytes) y → Under q t y → (j : ℕ) → j < q.jobs → T (has q.set j) → Dec (j ≡ b) → entry (raised s b x room) j ≤ y j
+          under y w u j m o (no n) = rw (raised_else s b x room j n) (f.under y w u j m o)
           under y w u j m o (yes i) = rw i (omega (arith, there, x_under y w u, f.under y w u b (second_job k h) (ready.paired k h).1))
 
-      pub pair_behind : Behind l q bytes t (entry s) k → (z : List ℕ) → PushesPair (Some z) → Behind l q bytes t (entry z) (k + 1)
-      pair_behind g z p = rw p.1.0 (below_more _ k
-          (λ i m. omega (arith, g i m, raised_le s b x p.0 (pair_second bytes i)))
-          (omega (arith, raised_there s b x p.0, f.later a (first_job_lem k h))))
+      pub pair_behind : b < length s → Behind l q bytes t (entry s) k → (y : ℕ) → PushesPair (Some y) → Behind l q bytes t (entry (set s b y)) (k + 1)
+      pair_behind room g y p = rw p.0 (below_more _ k
+          (λ i m. omega (arith, g i m, raised_le s b x room (pair_second bytes i)))
+          (omega (arith, raised_there s b x room, f.later a (first_job_lem k h))))
 
     -- ── a round more ──
 
     pub round_none : (t s : List ℕ) → Pushed l q bytes (entry t) (entry s) → NoneUnder l q bytes (entry s) → NoneUnder l q bytes (entry t)
     round_none t s f g y w u = g y w (f.under y w u)
 
-    pub round_last : (s : List ℕ) {z : List ℕ} → Behind l q bytes (entry s) (entry z) q.pairs → s ≡ z → Behind l q bytes (entry s) (entry s) q.pairs
-    round_last s g e = rw (← e) at g
+    pub round_last : (s z : List ℕ) → Behind l q bytes (entry s) (entry z) q.pairs → Same s z q.jobs → Behind l q bytes (entry z) (entry z) q.pairs
+    round_last s z g o i h = rw (← o (pair_first bytes i) (first_job_lem i h)) (g i h)
 
     -- a round that moves a start leaves less to move
-    pub round_less : (s r : List ℕ) → Pushed l q bytes (entry s) (entry r) → length s ≡ length r → (s ≡ r → ⊥)
+    pub round_less : (s r : List ℕ) → Pushed l q bytes (entry s) (entry r) → (Same s r q.jobs → ⊥)
         → sum (λ j. q.bound - entry r j) q.jobs < sum (λ j. q.bound - entry s j) q.jobs
-    round_less s r f m n = ⊎_elim (λ e. absurd (n (ext_get_or 0 s r m (λ j _. all e j (dec_lt j q.jobs))))) (λ m. m)
+    round_less s r f n = ⊎_elim (λ e. absurd (n (λ j h. still j h (e j h) (dec_lt (entry s j) (entry r j))))) (λ m. m)
         (sum_falls (λ j. q.bound - entry r j) (λ j. q.bound - entry s j) q.jobs (λ j h. omega (arith, f.later j h)))
       where
         still : (j : ℕ) → j < q.jobs → q.bound - entry r j ≡ q.bound - entry s j → Dec (entry s j < entry r j) → entry s j ≡ entry r j
         still j h e (yes m) = absurd (omega (arith, f.ends j h m))
         still j h e (no m) = omega (arith, f.later j h)
-
-        -- a job that is not of the table is not of the set, and stays
-        all : ((j : ℕ) → j < q.jobs → q.bound - entry r j ≡ q.bound - entry s j) → (j : ℕ) → Dec (j < q.jobs) → entry s j ≡ entry r j
-        all e j (yes h) = still j h (e j h) (dec_lt (entry s j) (entry r j))
-        all e j (no h) = sym (f.out j (λ o. h (ready.named j o)))
 
     -- ── from the releases to the settled starts ──
 

@@ -1,6 +1,6 @@
 -- Least starts that keep ordered pairs of jobs, none before its release, and what the steps towards them promise.
 -- Assumes nothing.
-use Rattle.std.specs.Prelude.{◌≡◌, cond, Option, MatchOption, List, ℕ, ◌+◌, ◌/◌, ◌≤◌, ◌<◌, max, T, length, set}
+use Rattle.std.specs.Prelude.{◌≡◌, cond, Option, MatchOption, List, ℕ, ◌+◌, ◌/◌, ◌≤◌, ◌<◌, max, T, length}
 use Rattle.facts.specs.Facts.{has}
 use Rattle.rules.specs.Table.{Problem}
 use Rattle.rules.specs.Premises.{Below}
@@ -38,8 +38,8 @@ abbrev pub Under : Ask → (t y : Plan) → Type 0
 Under q t y = (j : ℕ) → j < q.jobs → T (has q.set j) → t j ≤ y j
 
 -- job b, which is `long`, starts at x or later, unless it would then end after the bound
-abbrev pub Pushes : (t : List ℕ) → (b x long bound : ℕ) → Option (List ℕ) → Type 0
-Pushes t b x long bound r = (b < length t) × MatchOption r (bound < x + long) (λ s. (s ≡ set t b (max (entry t b) x)) × (x + long ≤ bound))
+abbrev pub Pushes : (t : List ℕ) → (b x long bound : ℕ) → Option ℕ → Type 0
+Pushes t b x long bound r = MatchOption r (bound < x + long) (λ y. (y ≡ max (entry t b) x) × (x + long ≤ bound))
 
 -- s is t with starts of the set pushed on: those end by the bound, and none is later than in any starts that keep what is asked
 pub record Pushed (l : Loaded) (q : Ask) (bytes : List ℕ) (t s : Plan) : Type 0 where

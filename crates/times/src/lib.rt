@@ -13,26 +13,24 @@ ghost use Rattle.times.specs.Steps.{Ready, Begins, EndInTime, Pushes, Round, Rou
 use std::array;
 use tables::{Ask, Loaded};
 
-// Job b starts no earlier than the gap after job a finishes; refused where b would then end after the bound.
+// Where job b starts, no earlier than the gap after job a finishes; refused where b would then end after the bound.
 fn push(
-    t: [u16; 24],
+    t: &[u16; 24],
     a: usize,
     b: usize,
     first: u16,
     gap: u16,
     second: u16,
     bound: u16,
-) -> Option<[u16; 24]>
+) -> Option<u16>
     requires { (a < 24) × (b < 24) }
-    ensures { Pushes t b (entry t a + first + gap) second bound result }
+    ensures { Pushes t.now b (entry t.now a + first + gap) second bound result }
 {
     let x = u32::from(t[a]) + u32::from(first) + u32::from(gap);
     if u32::from(bound) < x + u32::from(second) {
         return None;
     }
-    let mut s = t;
-    s[b] = t[b].max(x as u16);
-    Some(s)
+    Some(t[b].max(x as u16))
 }
 
 // Every pair once.
@@ -45,8 +43,8 @@ fn round(l: Loaded, q: Ask, pairs: &[u8], t: [u16; 24]) -> Option<[u16; 24]>
     for k in 0..q.pairs {
         let a = usize::from(pairs[2 * k]);
         let b = usize::from(pairs[2 * k + 1]);
-        s = push(
-            s,
+        s[b] = push(
+            &s,
             a,
             b,
             l.jobs[a].duration,
@@ -66,8 +64,8 @@ fn rounds(l: Loaded, q: Ask, pairs: &[u8], t: [u16; 24]) -> Option<[u16; 24]>
     let mut s = t;
     loop {
         let next = round(l, q, pairs, s)?;
-        if s == next {
-            return Some(s);
+        if entries::same(s, next, q.jobs) {
+            return Some(next);
         }
         s = next;
     }

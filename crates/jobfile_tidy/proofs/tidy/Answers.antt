@@ -71,4 +71,4 @@ returns c =
     let a = c.args in
     let n : c.save_length-long.result ≡ save_length (take a.used a.buf.now) = c.save_length-long.ensures in
     tidies_yes a.used a.buf.now (c.done.ensures ∙ ap (λ (k : ℕ). answer_of accepted k 0) n) (passes c.before.before.before.before.before.before.before)
-    (c.pull.ensures ∙ ap (λ (k : ℕ). pulled k a.used a.buf.now) n)
+    (c.pull.ensures.bytes ∙ ap (λ (k : ℕ). pulled k a.used a.buf.now) n)

@@ -1,6 +1,5 @@
 use native.Mathlib.Omega.{arith}
-use Prim.Native.Nat.{max}
-use mathlib.Core.Path.{◌≡◌, refl, ap, ◌∙◌}
+use mathlib.Core.Path.{◌≡◌, refl}
 use Rattle.tables.specs.Tables.{job_at}
 use Rattle.rules.specs.Premises.{most}
 use Rattle.planning.proofs.Laws.{most_next}

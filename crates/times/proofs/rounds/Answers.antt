@@ -1,7 +1,4 @@
-use mathlib.Core.Path.{sym, ◌∙◌}
-use mathlib.Core.Bool.{true≢false}
 use borrow.Author.Rules.{rules}
-use lib.Pointwise.{bytes_decides}
 use Rattle.entries.specs.Entries.{entry}
 use Rattle.times.proofs.Laws.{pushed_none, pushed_on, round_none, round_last, round_less}
 use Rattle.times.proofs.rounds.Goals as goal
@@ -14,18 +11,23 @@ returns-in_err-next c =
     let a = c.args in
     rw c.from_residual.ensures (round_none a.l a.q a.pairs.now c.requires a.t c.loop-next.s c.loop-next.invariant.1 c.in_err-next.ensures)
 
-pub returns-then-eq : goal.returns-then-eq
-returns-then-eq c =
+pub same-requires : goal.same-requires
+same-requires c = c.requires.few
+
+pub returns-then-same : goal.returns-then-same
+returns-then-same c =
     let a = c.args in
     let s = c.loop-next.s in
-    (c.loop-next.invariant.1, round_last a.l a.q a.pairs.now c.requires s c.in_ok-next.ensures.1 ((bytes_decides s c.in_ok-next.next).0 (sym c.if-eq.ensures)))
+    let z = c.in_ok-next.next in (
+      pushed_on a.l a.q a.pairs.now (entry a.t) (entry s) (entry z) c.loop-next.invariant.1 c.in_ok-next.ensures.0,
+      round_last a.l a.q a.pairs.now c.requires s z c.in_ok-next.ensures.1 (c.same.ensures.yea c.if-same.true),
+    )
 
 pub loop-next-smaller : goal.loop-next-smaller
 loop-next-smaller c =
     let a = c.args in
     let s = c.loop-next.s in
-    round_less a.l a.q a.pairs.now c.requires s c.in_ok-next.next c.in_ok-next.ensures.0 (c.loop-next.invariant.0 ∙ sym (search rules))
-    (λ e. true≢false (sym ((bytes_decides s c.in_ok-next.next).1 e) ∙ sym c.if-eq.ensures))
+    round_less a.l a.q a.pairs.now c.requires s c.in_ok-next.next c.in_ok-next.ensures.0 (c.same.ensures.nay c.if-same.false)
 
 pub loop-next-preserved : goal.loop-next-preserved
 loop-next-preserved c =
