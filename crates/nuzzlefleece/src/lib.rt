@@ -133,6 +133,9 @@ pub fn nuzzlefleece_batches(groups: &[u8], t: &mut [Action]) -> BatchAnswer
     ensures { Batches groups.now t.old t.new result }
 {
     let r = batches::expand(groups, t.len());
+    if r.ask.jobs == 0 {
+        return r.into();
+    }
     records::scatter(t, r.table, r.ask.jobs);
     r.into()
 }
@@ -161,6 +164,9 @@ pub fn nuzzlefleece_read_file(file: &[u8], t: &mut [Action]) -> ReadAnswer
     ensures { Reads file.now t.old t.new result }
 {
     let r = jobfile_read::read_file(file, t.len());
+    if r.ask.jobs == 0 {
+        return r.into();
+    }
     records::scatter(t, r.table, r.ask.jobs);
     r.into()
 }
