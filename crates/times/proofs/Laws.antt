@@ -102,42 +102,42 @@ module _ (l : Loaded) (q : Ask) (bytes : List ℕ) where
       x_under : (y : Plan) → Obeys (problem l q) (wanted l q bytes) y → Under q t y → x ≤ y b
       x_under y w u = omega (arith, kept y w k h, f.under y w u a (first_job_lem k h) (ready.paired k h).0)
 
-      pub pair_none : PushesPair None → NoneUnder l q bytes t
+      pub pair_none : q.bound < x + (problem l q).duration b → NoneUnder l q bytes t
       pair_none p y w u = omega (arith, p, x_under y w u, w.ends b (second_job k h) (ready.paired k h).1)
 
-      pub pair_pushed : b < length s → (y : ℕ) → PushesPair (Some y) → Pushed l q bytes t (entry (set s b y))
-      pair_pushed room y p = rw p.0 (record {
-        later = λ j m. omega (arith, f.later j m, raised_le s b x room j);
+      pub pair_pushed : (y : ℕ) → PushesPair (Some y) → Pushed l q bytes t (entry (set s b y))
+      pair_pushed y p = rw p.1.0 (record {
+        later = λ j m. omega (arith, f.later j m, raised_le s b x p.0 j);
         ends = λ j m o. ends j m o (ℕ_discrete j b);
-        out = λ j n. raised_else s b x room j (λ e. n (rw e (ready.paired k h).1)) ∙ f.out j n;
+        out = λ j n. raised_else s b x p.0 j (λ e. n (rw e (ready.paired k h).1)) ∙ f.out j n;
         under = λ y w u j m o. under y w u j m o (ℕ_discrete j b);
       })
         where
-          there : entry (raised s b x room) b ≡ max (entry s b) x
-          there = raised_there s b x room
+          there : entry (raised s b x p.0) b ≡ max (entry s b) x
+          there = raised_there s b x p.0
 
           short : x + (problem l q).duration b ≤ q.bound
-          short = p.1
+          short = p.1.1
 
-          ends : (j : ℕ) → j < q.jobs → t j < entry (raised s b x room) j → Dec (j ≡ b) → finish (problem l q) (entry (raised s b x room)) j ≤ q.bound
-          ends j m o (no n) = let g = raised_else s b x room j n in rw g (f.ends j m (rw g at o))
+          ends : (j : ℕ) → j < q.jobs → t j < entry (raised s b x p.0) j → Dec (j ≡ b) → finish (problem l q) (entry (raised s b x p.0)) j ≤ q.bound
+          ends j m o (no n) = let g = raised_else s b x p.0 j n in rw g (f.ends j m (rw g at o))
           ends j m o (yes i) = rw i (go (dec_lt (t b) (entry s b)))
             where
-              over : t b < entry (raised s b x room) b
+              over : t b < entry (raised s b x p.0) b
               over = rw i at o
 
-              go : Dec (t b < entry s b) → finish (problem l q) (entry (raised s b x room)) b ≤ q.bound
+              go : Dec (t b < entry s b) → finish (problem l q) (entry (raised s b x p.0)) b ≤ q.bound
               go (yes n) = omega (arith, there, short, f.ends b (second_job k h) n)
               go (no n) = omega (arith, there, short, over)
 
-          under : (y : Plan) → Obeys (problem l q) (wanted l q bytes) y → Under q t y → (j : ℕ) → j < q.jobs → T (has q.set j) → Dec (j ≡ b) → entry (raised s b x room) j ≤ y j
-          under y w u j m o (no n) = rw (raised_else s b x room j n) (f.under y w u j m o)
+          under : (y : Plan) → Obeys (problem l q) (wanted l q bytes) y → Under q t y → (j : ℕ) → j < q.jobs → T (has q.set j) → Dec (j ≡ b) → entry (raised s b x p.0) j ≤ y j
+          under y w u j m o (no n) = rw (raised_else s b x p.0 j n) (f.under y w u j m o)
           under y w u j m o (yes i) = rw i (omega (arith, there, x_under y w u, f.under y w u b (second_job k h) (ready.paired k h).1))
 
-      pub pair_behind : b < length s → Behind l q bytes t (entry s) k → (y : ℕ) → PushesPair (Some y) → Behind l q bytes t (entry (set s b y)) (k + 1)
-      pair_behind room g y p = rw p.0 (below_more _ k
-          (λ i m. omega (arith, g i m, raised_le s b x room (pair_second bytes i)))
-          (omega (arith, raised_there s b x room, f.later a (first_job_lem k h))))
+      pub pair_behind : Behind l q bytes t (entry s) k → (y : ℕ) → PushesPair (Some y) → Behind l q bytes t (entry (set s b y)) (k + 1)
+      pair_behind g y p = rw p.1.0 (below_more _ k
+          (λ i m. omega (arith, g i m, raised_le s b x p.0 (pair_second bytes i)))
+          (omega (arith, raised_there s b x p.0, f.later a (first_job_lem k h))))
 
     -- ── a round more ──
 

@@ -39,7 +39,7 @@ Under q t y = (j : ℕ) → j < q.jobs → T (has q.set j) → t j ≤ y j
 
 -- job b, which is `long`, starts at x or later, unless it would then end after the bound
 abbrev pub Pushes : (t : List ℕ) → (b x long bound : ℕ) → Option ℕ → Type 0
-Pushes t b x long bound r = MatchOption r (bound < x + long) (λ y. (y ≡ max (entry t b) x) × (x + long ≤ bound))
+Pushes t b x long bound r = (b < length t) × MatchOption r (bound < x + long) (λ y. (y ≡ max (entry t b) x) × (x + long ≤ bound))
 
 -- s is t with starts of the set pushed on: those end by the bound, and none is later than in any starts that keep what is asked
 pub record Pushed (l : Loaded) (q : Ask) (bytes : List ℕ) (t s : Plan) : Type 0 where

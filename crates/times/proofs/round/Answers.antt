@@ -13,7 +13,7 @@ returns-in_err-s c =
     let a = c.args in
     let k = c.loop-k in
     rw c.from_residual.ensures
-    (pair_none a.l a.q a.pairs.now c.requires (entry a.t) k.s k.k c.loop-k-test.true k.invariant.1 (pushes_by a.l a.q k.s None c.from-a.ensures c.from-b.ensures c.gap-gap.ensures c.in_err-s.ensures))
+    (pair_none a.l a.q a.pairs.now c.requires (entry a.t) k.s k.k c.loop-k-test.true k.invariant.1 (pushes_by a.l a.q k.s None c.from-a.ensures c.from-b.ensures c.gap-gap.ensures c.in_err-s.ensures).1)
 
 pub loop-k-preserved : goal.loop-k-preserved
 loop-k-preserved c =
@@ -22,8 +22,8 @@ loop-k-preserved c =
     let y = c.in_ok-s.field-0 in
     let p = pushes_by a.l a.q k.s (Some y) c.from-a.ensures c.from-b.ensures c.gap-gap.ensures c.in_ok-s.ensures in rw c.from-b.ensures (
       search rules,
-      pair_pushed a.l a.q a.pairs.now c.requires (entry a.t) k.s k.k c.loop-k-test.true k.invariant.1 (search rules) y p,
-      pair_behind a.l a.q a.pairs.now c.requires (entry a.t) k.s k.k c.loop-k-test.true k.invariant.1 (search rules) k.invariant.2 y p,
+      pair_pushed a.l a.q a.pairs.now c.requires (entry a.t) k.s k.k c.loop-k-test.true k.invariant.1 y p,
+      pair_behind a.l a.q a.pairs.now c.requires (entry a.t) k.s k.k c.loop-k-test.true k.invariant.1 k.invariant.2 y p,
     )
 
 pub returns : goal.returns
